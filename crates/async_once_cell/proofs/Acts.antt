@@ -84,7 +84,7 @@ module _ (seen : List Entry) (t : ℕ) (x : TaskState) where
   full_by (UnderWay (AtCountIn q)) at can = moves_tell IsKept own 0 (λ n. n) _ _ (λ n w r. full_tells q n (nat_lt (flags_of n).count most) (flags_of n).ready w refl r.1) (full_moves seen t x q at)
   full_by _ at can = let no : ⊥ = cc in absurd no
 
-  -- who counts itself in records nothing
+  -- a task that counts itself in records nothing
   in_told : (r : Bool) (q : ℕ) → told t x.kept (after_count_in true r q) [] ≡ []
   in_told true q = refl
   in_told false q = refl
@@ -187,7 +187,7 @@ module _ (seen : List Entry) (h : Held Sheet) (is : IsHand seen h) where
 pub make_keeps : (seen : List Entry) → Notes IsKept (seen, []) (Makes (seen, []))
 make_keeps seen = made_notes seen
 
--- where there was room, the load before the exchange changed nothing
+-- if there was room, the load before the exchange changed nothing
 pub room_stays : (n : ℕ) (v w : View Entry Sheet) → (flags_of n).count < most → Tells Full v n w → Stays v w
 room_stays n v w l told =
     let room : nat_lt (flags_of n).count most ≡ true = grind (arith, nat_tests, l) in

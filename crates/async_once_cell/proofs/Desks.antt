@@ -61,7 +61,7 @@ section_after {room = room} {n = n} {d = d} {e = e} {x = x} {y = y} {z = z} at s
     let now = subst (SectionDid room n d y e z) (ap (λ (t : TaskState). call_in t.step) s.task ∙ at) did in
     record { desk = now.desk; went = went_after _ _ x y z s now.went; shows = now.shows }
 
--- the same answer, the same that is left and the same who are handed out
+-- a section told the same if its answer, what it left and the wakers that it handed out are the same
 was_so : (x z : Own) (q : ℕ) (op : Op ℕ) {o o' : Op ℕ} {a a' : Answer ℕ} {X X' : List ℕ} → a' ≡ a → o' ≡ o → X' ≡ X → Went x (Was q op a o) X z → Went x (Was q op a' o') X' z
 was_so x z q op a o X w = subst (λ (e : Answer ℕ × Op ℕ × List ℕ). Went x (Was q op e.0 e.1) e.2 z) (λ i. (sym a i, sym o i, sym X i)) w
 
@@ -99,7 +99,7 @@ module _ {W : Type 0} {g : _} (whose : W → ℕ) (l : Lists W g) (d : Desked) (
   abbrev ListFits : Bool → ℕ → Option ℕ → ℕ → Lists W g → Answer ℕ → Option ℕ → Desked → Type 0
   ListFits room n k v l' a k' e = IsShown whose l' (section_desk room n e (Section 0 (ListOwn k (Some v)))) × (a ≡ listed n k room e) × (k' ≡ listed_ticket (listed n k room e) k e.listings)
 
-  -- after a listing of w, where there was room
+  -- after a listing of w, if there was room
   list_fits : (n : ℕ) (k k' : Option ℕ) (w : W) (w' : Option W) (l' : Lists W g) (result : Answer W)
       → (is_some (kept_ticket k (listings_of l)) ≡ true) ⊎ (result ≡ Memory → ⊥)
       → Claims (sees (flags_of n) l.head) (claimant l k) result (claimant l' k')
@@ -171,7 +171,7 @@ module _ {W : Type 0} {g : _} (whose : W → ℕ) where
       → IsDesked whose o d → f ≡ d → o ≡ Some b → l ≡ b.value → call_in x.task.step ≡ c → Stayed x y → SectionDid room n f y e z (call_in y.task.step) → InSection l room n c x e z
   in_section {f = f} is same some there at stayed did = record { before = f; shown = found_shown whose is same some there; did = section_after at stayed did }
 
-  -- the same where room was made in the queue, or refused
+  -- the same if room was made in the queue, or refused
   pub roomed : {l : Lists W g} {room b : Bool} {n : ℕ} {c : Call ℕ ℕ} {x z : Own} {e : Desked} (m : Lists W g) → m.head ≡ l.head → listings_of m ≡ listings_of l → room ≡ b
       → InSection l room n c x e z → InSection m b n c x e z
   roomed {n = n} {c = c} {x = x} {z = z} {e = e} m head listings same s = record {
@@ -190,7 +190,7 @@ module _ {W : Type 0} {g : _} (whose : W → ℕ) where
       let f = look_fits whose l s.before s.shown n k k' l' result claims held stays in
       (subst (IsShown whose l') (sym s.did.desk) f.0, was_so x z q (Look k) {X = []} {X' = []} f.1 (ap Look f.2) refl s.did.went)
 
-  -- a listing of a waker that is there, where there was room
+  -- a listing of a waker that is there, if there was room
   pub list_ends : {l : Lists W g} {n q : ℕ} {x z : Own} {e : Desked} {k : Option ℕ} (o w' : Option W) (k' : Option ℕ) (l' : Lists W g) (result : Answer W)
       → call_in x.task.step ≡ Section q (ListOwn k (option_map whose o)) → InSection l true n (Section q (ListOwn k (option_map whose o))) x e z
       → (is_some (kept_ticket k (listings_of l)) ≡ true) ⊎ (result ≡ Memory → ⊥)
@@ -203,7 +203,7 @@ module _ {W : Type 0} {g : _} (whose : W → ℕ) where
       (subst (IsShown whose l') (sym s.did.desk) f.0, was_so x z q (ListOwn k (Some (whose w))) {X = []} {X' = []} f.1 (ap Look f.2) refl s.did.went)
   list_ends {q = q} {x = x} {k = k} None w' k' l' result at s space claims held head = absurd (no_waker x.task.step q k at)
 
-  -- the same where there was no room, and a look was made in its place
+  -- the same if there was no room, and a look was made in its place
   pub refusal_ends : {l : Lists W g} {n q : ℕ} {x z : Own} {e : Desked} {k : Option ℕ} (o : Option W) (k' : Option ℕ) (l' : Lists W g) (result : Answer W)
       → call_in x.task.step ≡ Section q (ListOwn k (option_map whose o)) → InSection l false n (Section q (ListOwn k (option_map whose o))) x e z
       → is_some (kept_ticket k (listings_of l)) ≡ false

@@ -1,4 +1,4 @@
--- What the list of those who wait shows on the queue's page, and one move of the book for each moment.
+-- What the list of the waiters shows on the queue's page, and one move of the book for each moment.
 pub mod Steps
 pub mod Named
 pub mod Looks

@@ -65,7 +65,7 @@ module _ (seen : List Entry) (d : Desked) (t : ℕ) (x : TaskState) where
       let mine = l.2.1.1.0 ∙ ap (λ m. entries_of t seen ++ m) (all_of t es (told_of t x.kept next did of)) in
       (both_is w.0 e t y w.1 l.0, (ap desked l.0, record { number = ap (λ h. number_in (behind h)) l.0; task = ap (λ h. task_in (behind h)) l.0; log = l.1; mine = mine }))
 
-  -- where nothing is done, both pages and what the task knows stay
+  -- if nothing is done, both pages and what the task knows stay
   stood : (w : View Entry Sheet) → Leaves seen (all seen d t x) [] [] w → IsBoth w.0 w.1 × ((desked w.1 ≡ d) × Stayed known (own_behind w))
   stood w l = (
     both_is w.0 d t x w.1 l.0,
@@ -96,7 +96,7 @@ module _ (seen : List Entry) (d : Desked) (t : ℕ) (x : TaskState) where
   get_by (UnderWay (AtDoorAgain e)) at can = notes_tell IsKept own _ _ (λ w r. again_is d.door e w r.0 (left d [] (next_at (AtRelease 1 e)) w tt r.1)) (again_notes seen d t x e at)
   get_by _ at can = let no : ⊥ = cc in absurd no
 
-  -- a queue is found where one would be put
+  -- a task that would put a queue finds one at the door
   found_by : (o : Option ℕ) (s : Step ℕ ℕ) → d.door ≡ o → is_some o ≡ true → x.step ≡ s → call_in s ≡ DoorPut → Notes IsKept own (λ w. Goes d [] (next_of s x.waker (PutQueue o)) w)
   found_by (Some q) (UnderWay AtDoorPut) e one at can = notes_tell IsKept own _ _ (λ w r. left d [] (next_at (AtCountIn q)) w tt r.1) (found_notes seen d t x q at e)
   found_by (Some q) _ e one at can = let no : ⊥ = cc in absurd no

@@ -39,7 +39,7 @@ module _ {ns : List ℕ} {ss : List Sheet} (seen : List Entry) {log : List Entry
   seen_run = run_of_beginning Once most seen pre.0
       (subst (λ l. IsRun Once most (reverse l)) (sym pre.1) (log_is_run most kept.word kept.has_put kept.slot (pages_in ss) log some kept.book))
 
-  -- and somebody was called
+  -- and some task was woken whenever one had to be
   pub seen_called : AtEvery (SomebodyCalled Once) (reverse seen)
   seen_called = every_of_beginning (SomebodyCalled Once) seen pre.0
       (subst (λ l. AtEvery (SomebodyCalled Once) (reverse l)) (sym pre.1) (somebody_called most kept.word kept.has_put kept.slot (pages_in ss) log some kept.book))
@@ -55,14 +55,14 @@ module _ {ns : List ℕ} {ss : List Sheet} (seen : List Entry) {log : List Entry
       let turned : reverse seen ≡ reverse p.0 ++ reverse older = ap reverse (sym p.1) ∙ reverse-append older p.0 in
       subst (λ h. is_set (cell Once h) ≡ true) (sym turned) (set_on (reverse p.0) (reverse older) (subst (IsRun Once most) turned seen_run) (subst ArePlain turned seen_plain) set)
 
-  -- and so it is where a call ended with the value
+  -- and so it is if a poll ended with the value
   pub seen_answered : (t : ℕ) → EndsSet t seen → IsSet seen
   seen_answered t ends =
       let turned : reverse seen ≡ End t (Value 0) ∷ reverse ends.0 = ap reverse ends.1 ∙ reverse-append ends.0 (End t (Value 0) ∷ []) in
       let before : cell Once (reverse ends.0) ≡ SetTo 0 = value_set Once most t 0 (reverse ends.0) (subst (IsRun Once most) turned seen_run) in
       ap (λ h. is_set (cell Once h)) turned ∙ ap is_set before
 
-  -- where it is set a Fill stands in it: what is set then is set at the end, and all that tasks set is named 0
+  -- if it is set, a Fill stands in it: what is set then is set at the end, and all that tasks set is named 0
   pub seen_filled : IsSet seen → WasFilled seen
   seen_filled set =
       let turned : reverse log ≡ reverse pre.0 ++ reverse seen = ap reverse (sym pre.1) ∙ reverse-append seen pre.0 in

@@ -94,7 +94,7 @@ pub stays_set : (es h : List Entry) (v : ℕ) → IsRun Once most (es ++ h) → 
 stays_set [] h v run plain s = s
 stays_set (e ∷ es) h v run plain s = value_lasts Once most e (es ++ h) v run (shared_entry e plain.0) (stays_set es h v run.1 plain.1 s)
 
--- where a call ended with the value, the cell of every later log is set
+-- if a poll ended with the value, the cell of every later log is set
 ended_set : (n put : ℕ) (slot : Bool) (pages : List Page) (log : List Entry) → IsBook most n put slot pages log
     → (t : ℕ) (seen late : List Entry) → EndsSet t seen → seen ++ late ≡ log → cell Once (reverse log) ≡ SetTo 0
 ended_set n put slot pages log book t seen late ends e =
@@ -106,7 +106,7 @@ ended_set n put slot pages log book t seen late ends e =
     ∙ stays_set (reverse rest) (reverse ends.0) 0 (subst (IsRun Once most) turned (log_is_run most n put slot pages log some book))
     (subst ArePlain turned (log_is_plain most n put slot pages log some book)) set
 
--- so whoever saw a call end with the value knows that the slot is written
+-- so a task that saw a poll end with the value knows that the slot is written
 pub ended_sure : (t : ℕ) (seen : List Entry) → EndsSet t seen → Sure IsKept seen 2 2
 ended_sure t seen ends = record {
   is = λ ns n ss log k there pre.

@@ -47,7 +47,7 @@ writing_sheet es x = record { page = At x; writing = true; entries = es }
 abbrev pub pages_in : List Sheet → List Page
 pages_in ss = map (λ (s : Sheet). s.page) ss
 
--- the state of the slot: 0 where it is not written, 2 where it is,
+-- the state of the slot: 0 if it is not written, 2 if it is,
 -- and 1 while the task that is about to put the value writes it
 abbrev pub IsState : ℕ → Bool → List Sheet → Type 0
 IsState k slot ss =

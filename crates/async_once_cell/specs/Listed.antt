@@ -1,4 +1,4 @@
--- Whose a listed waker is, and whom it wakes.
+-- Whose a listed waker is, and which task it wakes.
 use Rattle.std.specs.Prelude.{◌≡◌, ◌⊎◌, ℕ, true, List, [], ◌∷◌, IsSomeAnd}
 use Rattle.futures.specs.declared.task.context.Context.{Context}
 use Rattle.futures.specs.Task.{Wakes}

@@ -57,7 +57,7 @@ gave_since gave (_ ∷ es) = gave_since gave es
 abbrev pub gave_value : ℕ → List Entry → Bool
 gave_value t log = gave_since false (entries_of t log)
 
--- a look that came after all that was seen, and found the value exactly where the cell was set then
+-- a look that came after all that was seen, and found the value exactly if the cell was set then
 abbrev pub Looked : Bool → List Entry → List Entry → Type 0
 Looked found old new =
     (before : List Entry) × IsPrefix old before × (new ≡ before ++ Look (if found then Some 0 else None) ∷ [])

@@ -13,7 +13,7 @@ use Rattle.async_once_cell.specs.declared.waker.ListedWaker.{ListedWaker}
 use Rattle.async_once_cell.specs.Listed.{WakesTask, number_on, whose}
 
 module _ {T E H : Type 0} where
-  -- its task, whether it has its init, a value, an error, or what shows its value, and who was handed to it
+  -- its task, whether it has its init, a value, an error, or what shows its value, and which wakers were handed to it
   abbrev pub told : PollSide T E H → Sided
   told s = record {
     number = s.mark;

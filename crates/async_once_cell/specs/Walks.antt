@@ -49,7 +49,7 @@ pub record IsCall (t : ℕ) (begin end : Entry) (mid old new : List Entry) : Typ
   pub own : entries_of t new ≡ entries_of t old ++ (begin ∷ (mid ++ end ∷ []))
   pub between : AreMid mid
 
--- the same, where it is not said what it did between
+-- the same, but it is not said what it did between
 pub record IsOneCall (t : ℕ) (begin end : Entry) (old new : List Entry) : Type 0 where
   pub mid : List Entry  -- what it did between
   pub is : IsCall t begin end mid old new  -- its own entries since then
@@ -99,11 +99,11 @@ module _ {W Q : Type 0} (drops : Bool) (x : Sided) (v : Own) where
   Fits r (Resting rest) = (r ≡ Ended EndPending) × GoesOn drops x v
   Fits r Finished = (e : Ending) × (r ≡ Ended e) × MayEnd drops x v e
 
--- there is one queue, so the code keeps nothing of it where the page has its number
+-- there is one queue: the page has its number, and the code keeps nothing of it
 abbrev pub the_queue : ℕ → ⊤
 the_queue n = tt
 
--- the code's step stands for that of the page, by whom a waker stands for
+-- the code's step stands for that of the page, by the task of each waker
 abbrev pub StandsOn : {W : Type 0} → (W → ℕ) → Own → Step W ⊤ → Type 0
 StandsOn whose v s = StandsForStep whose (λ q. q) the_queue s v.task.step
 
@@ -118,8 +118,8 @@ pub record Stands {W : Type 0} (whose : W → ℕ) (drops : Bool) (x : Sided) (v
 pub record Walked (x : Sided) (v : Own) (r : Progress) (y : Sided) (w : Own) : Type 0 where
   pub number : w.number ≡ v.number  -- it is the same task
   pub ends : Grew (progress_entries r w.number 0 w.task.kept) v.log w.log  -- an end is the newest entry
-  -- those who were handed to the side are those whom the entries of the steps name, and the side's init gave a value
-  -- where they say so
+  -- the tasks that were handed to the side are those that the entries of the steps name, and its init gave a value
+  -- if these say so, or if it had given one before
   pub made : (mid : List Entry) × AreMid mid
       × (entries_of v.number w.log ≡ entries_of v.number v.log ++ (mid ++ progress_entries r w.number 0 w.task.kept))
       × (y.woke ≡ x.woke ++ handed mid) × (has_given y ≡ gave_since (has_given x) mid)

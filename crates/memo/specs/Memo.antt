@@ -5,7 +5,7 @@ use Rattle.std.specs.BTreeMap.{is_at}
 use Rattle.std.specs.Map.{lookup}
 use Rattle.async_once_cell.specs.Views.{CellView, about_of, is_shared}
 
--- the key's cell, where the key has one
+-- the key's cell, if the key has one
 abbrev pub cell_of : {C : Type 0} → List (ℕ × C) → ℕ → Option C
 cell_of table key = lookup (is_at (nat_cmp key)) table
 

@@ -130,7 +130,7 @@ module _ (kind : Kind) (limit : ℕ) (e : Entry) (h : List Entry) (S : Seen) (f 
       let before = k.stood t w (stood_before t (is_of t e) refl is s) in let a = k.ended_by t in
       rw (ended_now t s, is, member-append, before) (grind (arith, nat_tests))
 
-  -- an entry that makes nobody: who was made
+  -- which tasks were made, after an entry that makes none
   was_made : (t : ℕ) → is_making e ≡ false → is_of t e ≡ true → is_made (status kind t h) ≡ true
   was_made t n is = live_made (status kind t h) (live_before e (status kind t h) t n (its_task t e is) (f.task t is))
 
@@ -152,7 +152,7 @@ module _ (kind : Kind) (limit : ℕ) (e : Entry) (h : List Entry) (S : Seen) (f 
       sym (count_moved p kind t n e h S.cell (S.task t).status (made_same e h makes) k.distinct
       (k.made_is t ∙ was_made t makes of) (λ u. of_its_task t u e its) is k.cell_is (k.status_is t))
 
--- who was made
+-- which tasks were made, after any entry
 made_first : (K : Kind) (t u : ℕ) (h : List Entry) (S : Seen) → Basics K h S → (b : Bool) → (t == u) ≡ b
     → member u (made_in (Made t ∷ h)) ≡ is_made (status K u (Made t ∷ h))
 made_first K t u h S k true is = rw is refl
@@ -170,7 +170,7 @@ distinct_now : (K : Kind) (limit : ℕ) (e : Entry) (h : List Entry) (S : Seen) 
 distinct_now K limit (Made t) h S f k = rw (unmade_out K limit t h S f k) k.distinct
 distinct_now K limit e h S f k = k.distinct
 
--- how many pass a test that none passes who was not made
+-- how many tasks pass a test that no unmade task passes
 count_made : (p : Status → Bool) (n : ℕ) (K : Kind) (limit t : ℕ) (h : List Entry) (S : Seen) → Fits K (Made t) h → Basics K h S → p Unmade ≡ false
     → n ≡ how_many (λ u. p (status K u h)) (made_in h)
     → how_many (λ u. p (status K u (Made t ∷ h))) (made_in (Made t ∷ h)) ≡ counted n (p (S.task t).status) (p Fresh)

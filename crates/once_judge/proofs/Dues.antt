@@ -1,4 +1,4 @@
--- Which tasks are due, wait or were called, and whether all are gone, from a walk over those that live.
+-- Which tasks are due, wait or were woken, and whether all are gone, from a walk over those that live.
 use Rattle.std.proofs.Common.{◌≡◌, ℕ, Bool, true, false, ◌⊎◌, inl, inr, ⊎_elim, Option, Some, None, refl, sym, ap, ◌∙◌, subst, ltb}
 use Rattle.std.specs.Ordering.{nat_cmp}
 use Rattle.std.specs.BTreeMap.{BTreeMap, get}
@@ -70,7 +70,7 @@ lives_by (Some x) b e = (x, refl, refl)
 lives_by None true e = absurd (⊎_elim (λ w. let z : ⊥ = cc in z) (λ w. false≢true w.0) e)
 lives_by None false e = absurd (⊎_elim (λ w. let z : ⊥ = cc in z) (λ w. false≢true w.0) e)
 
--- a task that was called lives
+-- a task that was woken lives
 pub called_lives : (k : GivenSeen) (t : ℕ) → IsCalledIn t (seen_of k) → (x : Task) × (get nat_cmp k.tasks.all t ≡ Some x) × ((seen_of k).task t ≡ task_in x)
 called_lives k t e = lives_by (get nat_cmp k.tasks.all t) (contains nat_cmp k.gone t) e.0
 

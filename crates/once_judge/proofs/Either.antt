@@ -84,7 +84,7 @@ member_some : (X : List ℕ) (w : ℕ) → member w X ≡ true → X ≢ []
 member_some [] w m e = false≢true m
 member_some (x ∷ X) w m e = cc
 
--- all that are due, if they are one at most, are one that is called; and one that is called, if it is all that are due, is all of them
+-- a list by the rule of all is one by the rule of one if it has one waker at most; and the other way round, if every waker that is due is in it
 all_one : (K : Kind) (X : List ℕ) (h : List Entry) → HandsOut K X h → length X ≤ 1 → CallsOne K X h
 all_one K X h o l = record { one = l; due = λ w d. member_some X w (o.due w d); open_alone = o.open_alone }
 

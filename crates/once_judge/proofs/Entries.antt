@@ -88,7 +88,7 @@ of_none u _ s = grind arith
 pub legal_before : (K : Kind) (limit t : ℕ) (e : Entry) (h : List Entry) → IsLegal K limit e h → is_of t e ≡ true → fits_before e (status K t h) ≡ true
 legal_before K limit t e h l n = legal_at K limit t e h l (its_task t e n)
 
--- who is live was made
+-- a live task was made
 pub live_made : (s : Status) → is_live s ≡ true → is_made s ≡ true
 live_made Unmade n = n
 live_made _ n = refl
@@ -125,7 +125,7 @@ count_moved p K t n e h c s same d m of is ce se =
     let a' = ap bit after in let b' = ap bit before in
     rw same (omega (arith, change, is, a', b'))
 
--- the entry ends a poll of t where it is of t and ends one
+-- the entry ends a poll of t exactly if it is of t and ends one
 pub end_is : (t : ℕ) (e : Entry) → is_end_of t e ≡ cond (is_of t e) (ends_poll e) false
 end_is t e = grind arith
 
@@ -136,7 +136,7 @@ end_hands t (Fill u v X) n = absurd (false≢true n)
 end_hands t (Pass u X) n = absurd (false≢true n)
 end_hands t _ n = refl
 
--- who stands after an entry that ends no poll stood before
+-- if an entry of a task ends no poll and the task stands after it, the task stood before
 pub stood_at : (e : Entry) (c : Cell) (s : Status) (k : LastCall) → ends_poll e ≡ false
     → stands (status_after e c s) (last_call_after e c s k).began ≡ true → stands s k.began ≡ true
 stood_at (Made t) c s k n w = absurd (false≢true w)
@@ -148,7 +148,7 @@ stood_at (DropBegin t) c _ k n w = absurd (false≢true w)
 stood_at (DropEnd t) c s k n w = absurd (false≢true w)
 stood_at _ c s k n w = w
 
--- who is live is not gone; so who stands is not, who is in a call, and who may free or pass
+-- a live task is not gone; so one that stands is not, nor one in a call, nor one that may free or pass
 pub live_stays : (s : Status) → is_live s ≡ true → is_gone s ≡ false
 live_stays Gone l = absurd (false≢true l)
 live_stays _ l = refl

@@ -20,7 +20,7 @@ one_list (x ∷ y ∷ X) a b = absurd (omega arith)
 pub none_member : (X : List ℕ) (w : ℕ) → length X < 1 → member w X ≡ false
 none_member X w a = ap (member w) (none_list X a)
 
--- nobody is handed out where none is due
+-- no waker need be handed out if none is due
 none_calls : (S : Seen) → ((w : ℕ) → IsDueIn w S → ⊥) → CallsOneIn [] S
 none_calls S n = record { one = omega arith; due = λ w d. absurd (n w d); open_alone = λ w m. absurd (false≢true m) }
 

@@ -69,7 +69,7 @@ module _ (K : Kind) (limit : ℕ) (h : List Entry) (S : Seen) (seen : IsSeenOf K
   call_of : (t : ℕ) → status K t h ≡ Polling → (S.task t).call ≡ last_call K t h
   call_of t p = call_at t (ap is_gone p)
 
-  -- what is kept tells who is gone
+  -- what is kept tells which tasks are gone
   stays_out : (t : ℕ) → is_gone (S.task t).status ≡ false → is_gone (status K t h) ≡ false
   stays_out t g = ap is_gone (sym (seen.basics.status_is t)) ∙ g
 

@@ -1,4 +1,4 @@
--- What is kept tells whether somebody was called.
+-- What is kept tells whether some task was woken.
 use Rattle.std.proofs.Common.{◌≡◌, ℕ, true, inl, inr, ⊎_elim, List, refl, sym, ap, ◌∙◌, ltb}
 use Rattle.once_machine.specs.Numbers.{member}
 use Rattle.once_machine.specs.Record.{Kind, Entry}
@@ -25,7 +25,7 @@ module _ (K : Kind) (limit : ℕ) (h : List Entry) (S : Seen) (seen : IsSeenOf K
   handed_is t s = seen.basics.stood t (last_call K t h).listed s
       ∙ ap (λ c. ltb (S.task t).ended (S.handed c.listed)) (sym (seen.basics.call_is t (stands_stays (status K t h) (last_call K t h).began s)))
 
-  -- who was called by the history was called by what is kept, and the other way round
+  -- a task that was woken as the history says was woken as what is kept says, and the other way round
   pub called_in : (t : ℕ) → IsCalled K t h → IsCalledIn t S
   called_in t c = ⊎_elim
       (λ w. (inl (seen.basics.status_is t ∙ w), sym (handed_is t (rw w refl)) ∙ c.1))
@@ -53,7 +53,7 @@ module _ (K : Kind) (limit : ℕ) (h : List Entry) (S : Seen) (seen : IsSeenOf K
         handed_is t (turn_stands (status K t h) (last_call K t h).began a b) ∙ c.1,
       )) c.0
 
-  -- and so somebody was called
+  -- so both say the same of whether some task was woken
   pub somebody_in : SomebodyCalled K h → SomebodyCalledIn S
   somebody_in s = λ c u w. let f = s (sym seen.basics.cell_is ∙ c) u (sym (seen.basics.status_is u) ∙ w) in (f.0, called_in f.0 f.1)
 

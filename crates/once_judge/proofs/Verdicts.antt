@@ -103,7 +103,7 @@ true_at c K limit xs i x S r l is j t = λ e split.
     subst (λ y. IsTrue K limit r (entry_of y) (history_in (take i xs))) its
     (true_out K limit (history_in (take i xs)) S j.seen r (entry_of x) t)
 
--- the moments so far: at each somebody was called who had to be, or there is a first at which nobody was
+-- the moments so far: at each some task was woken if one had to be, or there is a first at which none was
 abbrev pub Watched : Kind → List Written → ℕ → Option Forgotten → Type 0
 Watched K xs n None = AtEvery (SomebodyCalled K) (history_in (take n xs))
 Watched K xs n (Some f) = IsForgottenAt K xs f.entry f.task × (f.entry < n)

@@ -1,4 +1,4 @@
--- What a run is by either rule for a release without a value: it calls one who waits, as `IsRun` says, or all.
+-- What a run is by either rule for a release without a value: it wakes one waiter, as `IsRun` says, or all.
 use Rattle.std.specs.Prelude.{◌≡◌, ◌≤◌, ℕ, true, List, [], ◌∷◌, length}
 use Rattle.once_machine.specs.Numbers.{member}
 use Rattle.once_machine.specs.Record.{Kind, Entry, Free}
@@ -16,12 +16,12 @@ IsLegalToAll kind limit (Free t X) before =
     × HandsOut kind X before
 IsLegalToAll kind limit e before = IsLegal kind limit e before
 
--- a run of a cell whose releases without a value call all
+-- a run of a cell whose releases without a value wake all
 abbrev pub IsRunToAll : Kind → ℕ → List Entry → Type 0
 IsRunToAll kind limit [] = Unit {0}
 IsRunToAll kind limit (e ∷ before) = IsLegalToAll kind limit e before × IsRunToAll kind limit before
 
--- a run of a cell whose releases without a value call one, or all
+-- a run of a cell whose releases without a value wake one, or all
 abbrev pub IsRunBy : Calls → Kind → ℕ → List Entry → Type 0
 IsRunBy ToOne kind limit history = IsRun kind limit history
 IsRunBy ToAll kind limit history = IsRunToAll kind limit history

@@ -1,4 +1,4 @@
--- Which entry may come next, by what is kept of those before it; and whether somebody was called. Each word is one of
+-- Which entry may come next, by what is kept of those before it; and whether some task was woken. Each word is one of
 -- `once_machine` with "In" behind it, and is decided by a look at what is kept.
 use Rattle.std.specs.Prelude.{◌≡◌, ◌≢◌, ◌≤◌, ◌<◌, ◌⊎◌, ◌||◌, ℕ, Bool, true, false, nat_lt, nat_le}
 use Rattle.std.specs.Prelude.{List, [], ◌∷◌, Option, Some, None, length}
@@ -131,14 +131,14 @@ HasWaited x =
 abbrev pub WasCalled : TaskSeen → Seen → Type 0
 WasCalled x S = HasWaited x × (nat_lt x.ended (S.handed x.call.listed) ≡ true)
 
--- t was called
+-- t was woken
 abbrev pub IsCalledIn : ℕ → Seen → Type 0
 IsCalledIn t S = WasCalled (S.task t) S
 
--- if the cell is empty and some task waits, some task was called
+-- if the cell is empty and some task waits, some task was woken
 abbrev pub SomebodyCalledIn : Seen → Type 0
 SomebodyCalledIn S = S.cell ≡ Empty → (u : ℕ) → (S.task u).status ≡ Waiting → (t : ℕ) × IsCalledIn t S
 
--- the cell is empty, the task waits, and nobody was called
+-- the cell is empty, the task waits, and no task was woken
 abbrev pub IsForgottenIn : ℕ → Seen → Type 0
 IsForgottenIn t S = (S.cell ≡ Empty) × ((S.task t).status ≡ Waiting) × ((u : ℕ) → IsCalledIn u S → ⊥)

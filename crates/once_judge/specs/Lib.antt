@@ -3,9 +3,9 @@
 --   Verdict   where a record stops to be a run, which reason is true, and where somebody is forgotten
 --   Calls     what a run is by either rule for a release without a value
 --   Seen      what is kept of a history, and what one more entry makes of it
---   Legal     which entry may come next, by what is kept; and whether somebody was called
+--   Legal     which entry may come next, by what is kept; and whether some task was woken
 --   SeenOf    that what is kept is what the history tells
---   Living    which of the tasks that live wait, and which of these ask to be called
+--   Living    which of the tasks that live wait, and which of these ask to be woken
 --   Values    the program's status and cell; TaskShown its task
 --   Shown     the program's `Seen`, and what each part of `take` makes of it
 --   Reasons   which reason is true, by what is kept; Next which entry may come next, in short

@@ -1,4 +1,4 @@
--- Which of the tasks that live wait, and which of these ask to be called.
+-- Which of the tasks that live wait, and which of these ask to be woken.
 use Rattle.std.specs.Prelude.{◌≡◌, ℕ, true, false, nat_lt, unwrap_or, Some}
 use Rattle.std.specs.Ordering.{nat_cmp}
 use Rattle.std.specs.BTreeMap.{BTreeMap, get}
@@ -7,7 +7,7 @@ use Rattle.once_machine.specs.Tasks.{Waiting}
 use Rattle.once_judge.specs.declared.task.Task.{Task}
 use Rattle.once_judge.specs.TaskShown.{task_in}
 
--- the count of w, which is 0 where none stands
+-- the count of w, which is 0 if there is none
 abbrev pub count_at : BTreeMap ℕ ℕ → ℕ → ℕ
 count_at m w = unwrap_or (get nat_cmp m w) 0
 

@@ -99,7 +99,7 @@ abbrev pub ends_poll : Entry → Bool
 ends_poll (End t r) = true
 ends_poll _ = false
 
--- a task after an entry of it with the number n, where the cell was c, if it is not gone then
+-- a task after an entry of it with the number n, if the cell was c and the task is not gone then
 abbrev pub changed : Entry → Cell → ℕ → TaskSeen → TaskSeen
 changed e c n x = record {
   status = status_after e c x.status;
@@ -135,7 +135,7 @@ abbrev pub opens_with : Entry → ℕ → Cell → Bool
 opens_with (End u Pending) t c = is_held_by_other t c
 opens_with _ t c = false
 
--- who held last, if the cell is now c
+-- which task held last, if the cell is now c
 abbrev pub holder_after : Cell → ℕ → ℕ
 holder_after (Held t) holder = t
 holder_after _ holder = holder
@@ -150,7 +150,7 @@ abbrev pub other_after : Cell → ℕ → ℕ → ℕ → ℕ
 other_after (Held t) holder at other = if t == holder then other else at
 other_after _ holder at other = other
 
--- what is kept after one more entry, where at most limit tasks may be counted in
+-- what is kept after one more entry, if at most limit tasks may be counted in
 abbrev pub after : ℕ → Entry → Seen → Seen
 after limit e S = let about = count_after is_about e S (task_of e) S.about in
     let acting = count_after is_under_way e S (task_of e) S.acting in let now = suc S.now in

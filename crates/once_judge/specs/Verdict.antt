@@ -70,7 +70,7 @@ IsTrueAt kind limit reason n entries =
     (e : Written) → (take (suc n) entries ≡ take n entries ++ e ∷ [])
     → IsTrue kind limit reason (entry_of e) (history_in (take n entries))
 
--- after entry n the cell is empty and t waits, and nobody was called; before it, at each beginning somebody was
+-- after entry n the cell is empty, t waits and no task was woken; before it, at each beginning one was if one had to be
 pub record IsForgottenAt (kind : Kind) (entries : List Written) (n t : ℕ) : Type 0 where
   pub within : n < length entries
   pub empty : cell kind (history_in (take (suc n) entries)) ≡ Empty

@@ -20,7 +20,7 @@
 --   ScriptLemmas   the lines read so far: `read` and `unreadable` of `parse_lines`, and so of `parse_script`
 --
 -- The other folders are named after files and functions of src. `Answers` has the proofs of goals that are left open
--- there, and `Invariants` what a loop keeps. Where an answer has one tactic, it is there only so that an edit that
+-- there, and `Invariants` what a loop keeps. If an answer has one tactic, it is there only so that an edit that
 -- breaks its clause is refused at once.
 pub mod Listing
 pub mod Door

@@ -56,7 +56,7 @@ no_list : (text : List ℕ) → text ≢ codes "replace" → ((rest : List ℕ) 
 no_list text alone more [] h = alone h
 no_list text alone more (x ∷ xs) h = more h.0 h.1
 
--- where a text is no replacement, each line is read
+-- a text that is no replacement is read if it is a line
 pub reads_each : (r : Option Line) (text : List ℕ) → text ≢ codes "replace" → ((rest : List ℕ) → text ≢ codes "replace " ++ rest) → ReadsShort r text → (line : Line) → IsLine line text → IsSome r
 reads_each r text alone more s (Single (Make t)) h = s.make t h
 reads_each r text alone more s (Single (Poll t w)) h = s.poll t w h

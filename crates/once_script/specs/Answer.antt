@@ -11,7 +11,7 @@ IsAnswer Pending text = text ≡ codes "p"
 IsAnswer (Value value) text = (digits : List ℕ) × (text ≡ codes "v" ++ digits) × (number_of digits ≡ Some value)
 IsAnswer (Error error) text = (digits : List ℕ) × (text ≡ codes "e" ++ digits) × (number_of digits ≡ Some error)
 
--- a text is this answer of a list, where None is pending
+-- a text is this answer of a list; None stands for pending
 abbrev pub IsListed : Option ℕ → List ℕ → Type 0
 IsListed None text = IsAnswer Pending text
 IsListed (Some value) text = IsAnswer (Value value) text

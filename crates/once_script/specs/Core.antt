@@ -57,7 +57,7 @@ module _ {W : Type 0} where
   abbrev pub counted_state : CoreState W → CoreState W
   counted_state s = record s { word = record s.word { count = suc s.word.count } }
 
-  -- a new queue is put where memory is given and none stands
+  -- a new queue is put if memory is given and none stands
   abbrev pub put_state : Bool → Option ℕ → CoreState W → CoreState W
   put_state true None s = record s {
     door = Some (suc s.made);
@@ -68,7 +68,7 @@ module _ {W : Type 0} where
   }
   put_state _ _ s = s
 
-  -- the queue at the door is taken out, with its flag and all who are listed; where none stands all is as it was
+  -- the queue at the door is taken out, with its flag and all its listings; if none stands, all is as it was
   abbrev pub take_by : Option ℕ → CoreState W → CoreState W
   take_by (Some q) s = record s { door = None; head = false; listings = []; log = s.log ++ Taken q ∷ [] }
   take_by None s = s
@@ -91,11 +91,11 @@ module _ {W : Type 0} where
     listings = xs;
   }
 
-  -- who leaves takes its listing out, and passes its turn on where it had it
+  -- a task that leaves takes its listing out, and passes its turn on if it had one
   abbrev pub is_passing : ℕ → CoreState W → Bool
   is_passing n s = passes_turn (is_free (sees s.word s.head)) n s.listings
 
-  -- what is left when who has this ticket left
+  -- what is left when the task with this ticket left
   abbrev pub leave_state : ℕ → CoreState W → CoreState W
   leave_state n s = record s { listings = left_list (is_passing n s) n s.listings }
 
@@ -104,7 +104,7 @@ module _ {W : Type 0} where
   claim_state op s = record s { head = true; listings = list_without (ticket_in op) s.listings }
 
 module _ {W : Type 0} (same other : W → W → Type 0) where
-  -- a section on the queue at the door, where some task holds. A listing that was not there is refused where memory is
+  -- a section on the queue at the door, while some task holds. A listing that was not there is refused if memory is
   -- not given
   abbrev pub FindsHolder : CoreState W → Op W → Answer W → Op W → CoreState W → Type 0
   FindsHolder s (Look k) a o t = DidLook same other s.current (own_listing k s.listings) a × (t ≡ s) × (o ≡ Look k)
@@ -168,7 +168,7 @@ module _ {W : Type 0} (same other : W → W → Type 0) where
   DidCall s (Ran a) t = t ≡ s
   DidCall s PutValue t = t ≡ s
 
--- what each call asks: who counts out is counted, and where a line of the log is written there is room for it
+-- what each call asks: a task that counts out is counted, and if a line of the log is written, there is room for it
 abbrev pub CanCall : {W : Type 0} {g : _} → Core W g → Call W ℕ → Type 0
 CanCall s AddOne = s.word.count < 2 ^ 62 - 1
 CanCall s CountOut = 0 < s.word.count

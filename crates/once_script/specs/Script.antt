@@ -11,7 +11,7 @@ use Rattle.once_script.specs.Text.{IsLine, IsOpening}
 abbrev pub ends_with_feed : List ℕ → Bool
 ends_with_feed text = pointwise (λ a b. a == b) (drop (length text - 1) text) (10 ∷ [])
 
--- a text without the line feed at its end, where it has one
+-- a text without the line feed at its end, if it has one
 abbrev pub without_last_feed : List ℕ → List ℕ
 without_last_feed text = if ends_with_feed text then take (length text - 1) text else text
 

@@ -33,11 +33,11 @@ DidClose s t = t ≡ s
 abbrev pub DidPut : ReplaySide → ReplaySide → Type 0
 DidPut s t = t ≡ record s { value = put_value s.kept s.value }
 
--- a copy gives the waker where memory is granted
+-- a copy gives the waker if memory is granted
 abbrev pub DidCopy : ReplaySide → Option ℕ → ReplaySide → Type 0
 DidCopy s w t = (w ≡ (if s.granted then Some s.waker else None)) × (t ≡ s)
 
--- a wake notes who was handed out
+-- a wake notes which wakers were handed out
 abbrev pub DidWake : ReplaySide → Out ℕ → ReplaySide → Type 0
 DidWake s out t = t ≡ record s { handed = Some out }
 

@@ -44,7 +44,7 @@ IsLazy (Lazy answers) limit text =
     (digits : List ℕ) × IsListAfter digits answers.items text × (limit_of digits ≡ Some limit)
 IsLazy (LazyWith value) limit text = (digits : List ℕ) × IsWithAfter digits value text × (limit_of digits ≡ Some limit)
 
--- a text is the first line of a script of this kind, where so many tasks may be counted in
+-- a text is the first line of a script of this kind, with this limit on the tasks that are counted in
 abbrev pub IsOpening : Kind → ℕ → List ℕ → Type 0
 IsOpening Once limit text = (more : List ℕ) × (text ≡ codes "once " ++ more) × IsOnce Once limit more
 IsOpening (OnceWith value) limit text =
@@ -71,7 +71,7 @@ pub record IsPair (first second : ℕ) (text : List ℕ) : Type 0 where
   pub first_number : number_of digits ≡ Some first
   pub second_number : number_of more ≡ Some second
 
--- a text is this answer, and an x after it where memory is refused
+-- a text is this answer, with an x after it if memory is refused
 abbrev pub IsGiven : Ran → Bool → List ℕ → Type 0
 IsGiven answer true text = IsAnswer answer text
 IsGiven answer false text = (field : List ℕ) × (text ≡ field ++ codes " x") × IsAnswer answer field

@@ -46,7 +46,7 @@ abbrev pub wakers_in : Out ℕ → List ℕ
 wakers_in (One w) = option_to_list w
 wakers_in (All X) = wakers_of X.items
 
--- by one who leaves, or by one who gives the right back
+-- by a task that leaves, or by one that gives the right back
 abbrev pub out_entries : Bool → List ℕ → ℕ → Answer → List Entry
 out_entries true X t k = pass_entries t X
 out_entries false X t k = release_entry k t X ∷ []
@@ -56,7 +56,7 @@ abbrev pub handed_entries : Bool → Option (Out ℕ) → ℕ → Answer → Lis
 handed_entries leaving (Some out) t k = out_entries leaving (wakers_in out) t k
 handed_entries leaving None t k = []
 
--- the entries of a step of t that was seen to do this, where its init gave k and the value v is set
+-- the entries of a step of t that was seen to do this, if its init gave k and the value v is set
 abbrev pub step_entries : ℕ → StepSeen → Answer → ℕ → List Entry
 step_entries t s k v =
     progress_entries s.progress t v k ++ handed_entries s.leaving s.handed t k ++ freed_entries s.freed t k

@@ -13,7 +13,7 @@
 --
 -- The other folders are named after files and functions of src. `Proof` there is a walk: a proof by hand, statement by
 -- statement. A new step of a word begins as a copy of the walk of `swap`, with the names of its rule in their place.
--- `Send` and `Sync` say what may go to other threads. `Answers` has the proofs of goals that are left open. Where an
+-- `Send` and `Sync` say what may go to other threads. `Answers` has the proofs of goals that are left open. If an
 -- answer has one tactic, it is there only so that an edit that breaks its clause is refused at once.
 pub mod Rows
 pub mod Page

@@ -1,7 +1,7 @@
 -- What a word and the tokens of a book own.
 -- Each page lies in two parts under one name: the book keeps a quarter of it, and three quarters are its pen.
--- Whoever has both may change it, and whoever has one knows its value.
--- The words lie in the same way under a name of their own, where the pen of a word is in the `Word`.
+-- A thread that has both may change it, and one that has either knows its value.
+-- The words lie in the same way under a name of their own; the pen of a word is in the `Word`.
 -- The book's part is an invariant for good. It has no bytes.
 -- A word that is shared is an invariant too, with a greater number, so that a step can open both.
 use Rattle.core.specs.Prelude.{ℕ, suc, ◌<◌, List, [], ◌∷◌, map}
@@ -27,7 +27,7 @@ known φ = fex φ (λ _. ftrue)
 abbrev pub as_coded : Coded Gv
 as_coded = record { code = λ g. g; inj = λ x y p. p }
 
--- a share of a page, and its value, on which all who have a share agree
+-- a share of a page, and its value, on which all that have a share agree
 abbrev pub page_algebra : Algebra
 page_algebra = both shares (agreed (coded as_coded))
 

@@ -68,7 +68,7 @@ module _ {P : Type 0} where
   extended [] ps = ps
   extended (a ∷ bs) ps = extended bs (ps ++ a ∷ [])
 
-  -- the hand with the pens of new pages before the others, where the first new page has the number k
+  -- the hand with the pens of new pages before the others, if the first new page has the number k
   abbrev pub dealt : ℕ → List P → Held P → Held P
   dealt k [] h = h
   dealt k (a ∷ bs) h = (k, a) ∷ dealt (suc k) bs h
@@ -81,7 +81,7 @@ module _ {E P : Type 0} (holds : List ℕ → List P → List E → Type 0) (v :
       × holds ns (extended bs (put ys v.1 ps)) (log ++ more)
       × then (log ++ more, dealt (length ps) bs (rewritten ys v.1))
 
-  -- Wherever the rule holds and the view fits the book, the step keeps the rule by which the word k becomes `f` of the
+  -- If the rule holds and the view fits the book, the step keeps the rule by which the word k becomes `f` of the
   -- number `n` found there, and `then n` holds after it
   pub record Moves (k : ℕ) (f : ℕ → ℕ) (then : ℕ → View E P → Type 0) : Type 0 where
     pub goes : (ns : List ℕ) (n : ℕ) (ps : List P) (log : List E)
@@ -93,7 +93,7 @@ module _ {E P : Type 0} (holds : List ℕ → List P → List E → Type 0) (v :
     pub goes : (ns : List ℕ) (ps : List P) (log : List E)
         → holds ns ps log → IsPrefix v.0 log → Agrees v.1 ps → Keeps ns then ps log
 
--- Whoever has seen so much of the log knows by the rule that the word k is m
+-- A thread that has seen so much of the log knows by the rule that the word k is m
 pub record Sure {E P : Type 0} (holds : List ℕ → List P → List E → Type 0) (seen : List E) (k m : ℕ) : Type 0 where
   pub is : (ns : List ℕ) (n : ℕ) (ps : List P) (log : List E)
       → holds ns ps log → slice_get ns k ≡ Some n → IsPrefix seen log → n ≡ m

@@ -60,7 +60,7 @@ module _ (R : RattleType) where
   abbrev pub written : GName → R.Denot → Fml
   written γ x = fres γ (sign (full x))
 
-  -- where the slot is full, its value lies in the field
+  -- if the slot is full, its value lies in the field
   abbrev pub Filled : Option R.Denot → Phase R.Denot → Type 0
   Filled v empty = Unit {0}
   Filled v writing = Unit {0}
@@ -76,7 +76,7 @@ module _ (R : RattleType) where
     abbrev pub Kept : Option R.Denot → Type 0
     Kept v = IfSome v (fits l.about)
 
-    -- the state's number says the phase. While the slot is empty, whoever has this may begin to write
+    -- the state's number says the phase. While the slot is empty, a thread that has this may begin to write
     abbrev pub told : ℕ → Phase R.Denot → Fml
     told n empty = fsep (feq ℕ n 0) (fobs l.id gnil)
     told n writing = feq ℕ n 1
@@ -110,7 +110,7 @@ module _ (R : RattleType) where
       tie writing = ftrue
       tie (full x) = fres t.1 ((OptionOf R).coded.code (Some x))
 
-      -- the field itself: to be written by the first who begins, and to be read by all once it is full
+      -- the field itself: to be written by the first thread that begins, and to be read by all once it is full
       abbrev pub lent : Phase R.Denot → Fml
       lent empty = fbor t.0 Field
       lent writing = ftrue

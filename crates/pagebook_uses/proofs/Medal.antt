@@ -1,2 +1,2 @@
--- Who comes first.
+-- Which thread comes first.
 pub mod Steps

@@ -6,7 +6,7 @@ use Rattle.pagebook_uses.specs.declared.hall.Arrival.{Arrival}
 use Rattle.pagebook_uses.specs.declared.hall.Page.{Page}
 use Rattle.pagebook_uses.specs.declared.hall.Page.TheVariants.{AtDesk, OfVisitor}
 
--- a page counts where its visitor is inside
+-- a page counts if its visitor is inside
 abbrev pub counts : Page → ℕ
 counts (AtDesk n) = 0
 counts (OfVisitor b) = if b then 1 else 0
@@ -22,7 +22,7 @@ pub record IsKept (ns : List ℕ) (ps : List Page) (log : List Arrival) : Type 0
   -- page 0 is the desk's, and an entry stands for each that came in
   pub desk : slice_get ps 0 ≡ Some (AtDesk (length log))
 
--- a visitor's page was added, who is not inside
+-- a visitor's page was added, and that visitor is not inside
 abbrev pub Arrived : View Arrival Page → ℕ → View Arrival Page → Type 0
 Arrived v n w = (k : ℕ) × (w.1 ≡ (k, OfVisitor false) ∷ v.1)
 

@@ -37,10 +37,10 @@ pub record IsShelf (ns : List ℕ) (ps : List Stage) (log : List Filled) : Type 
   pub page : ps ≡ stage ∷ []  -- the one page says the stage
   pub entries : log ≡ log_of stage  -- the entry stands in the log once the slot is full
 
--- the one who fills came to the stage s, and the log is as it is there
+-- the thread that fills came to the stage s, and the log is as it is there
 abbrev pub Came : Stage → View Filled Stage → ℕ → View Filled Stage → Type 0
 Came s v n w = (w.1 ≡ rewritten (s ∷ []) v.1) × (w.0 ≡ log_of s)
 
--- nothing changed, and where the bit was found, the value was put
+-- nothing changed, and if the bit was found, the value was put
 abbrev pub Looked : View Filled Stage → ℕ → View Filled Stage → Type 0
 Looked v n w = (w.1 ≡ v.1) × (n ≡ 1 → w.0 ≡ filled ∷ [])

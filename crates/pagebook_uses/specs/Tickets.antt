@@ -40,7 +40,7 @@ Joined v n w = (k : ℕ) × (w.1 ≡ (k, drawn []) ∷ v.1)
 abbrev pub Looked : {E : Type 0} → View E Drawn → ℕ → View E Drawn → Type 0
 Looked v n w = w.1 ≡ v.1
 
--- where the number found is x, it was drawn, and else nothing changed
+-- if the number found is x, it was drawn, and else nothing changed
 abbrev pub Drew : {E : Type 0} → ℕ → View E Drawn → ℕ → View E Drawn → Type 0
 Drew x v n w = w.1 ≡ (if n == x then with_number x v.1 else v.1)
 

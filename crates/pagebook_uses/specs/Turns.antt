@@ -4,7 +4,7 @@ use Rattle.pagebook.specs.Pages.{View}
 use Rattle.pagebook_uses.specs.declared.turns.Hit.{Hit}
 use Rattle.pagebook_uses.specs.declared.turns.Hit.TheVariants.{Ping, Pong}
 
--- whether the one who begins has its turn after so many hits
+-- whether the player who begins has its turn after so many hits
 abbrev pub pings_next : ℕ → Bool
 pings_next zero = true
 pings_next (suc n) = not (pings_next n)
@@ -23,15 +23,15 @@ pub record IsRally (ns : List ℕ) (ps : List ℕ) (log : List Hit) : Type 0 whe
   pub turn : (pongs ≤ pings) × (pings ≤ suc pongs)  -- neither is ahead by more than its turn
   pub hits : log ≡ rally (pings + pongs)  -- the log is a rally of all hits
 
--- Nothing changed, and where the other's word is this player's, as many hits were seen as both have
+-- Nothing changed, and if the other's word is this player's, as many hits were seen as both have
 abbrev pub Looked : ℕ → View Hit ℕ → ℕ → View Hit ℕ → Type 0
 Looked mine v n w = (w.1 ≡ v.1) × (n ≡ mine → length w.0 ≡ mine + mine)
 
--- Nothing changed, and where the other's word is not this player's, the other hit once more
+-- Nothing changed, and if the other's word is not this player's, the other hit once more
 abbrev pub LookedBack : ℕ → View Hit ℕ → ℕ → View Hit ℕ → Type 0
 LookedBack mine v n w = (w.1 ≡ v.1) × ((n ≡ mine → ⊥) → length w.0 ≡ suc (mine + mine))
 
--- the one who begins hit, and as often more than the other
+-- the player who begins hit, and has one hit more than the other
 abbrev pub Pinged : ℕ → View Hit ℕ → ℕ → View Hit ℕ → Type 0
 Pinged mine v n w = (w.1 ≡ (0, suc mine) ∷ []) × (w.0 ≡ rally (suc (mine + mine)))
 

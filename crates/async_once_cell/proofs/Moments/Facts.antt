@@ -42,7 +42,7 @@ stood_at limit t c h _ is a = absurd is
 no_head : (a b : Bool) → false ≡ (a || b) → b ≡ false
 no_head a b e = grind arith
 
--- who is about to leave has not passed its turn on in this call
+-- a task that is about to leave has not passed its turn on in this poll or drop
 leaves_unpassed : (t : ℕ) (h : List Entry) (e : Ending) → MayLeave Once t h e → (last_call Once t h).passed ≡ false
 leaves_unpassed t h EndMemory l = l.0.poll.unpassed
 leaves_unpassed t h EndDropped l = l.2
@@ -76,13 +76,13 @@ module _ {limit n put : ℕ} {slot : Bool} {pages : List Page} {log : List Entry
   at_place : (p : Place ℕ ℕ) → x.step ≡ UnderWay p → AtPlace Once limit t c m.w.history p
   at_place p at = stands t some book pen p at
 
-  -- the value is not set where a holder is about to give the right back
+  -- the value is not set while a holder is about to give the right back
   pub unset_at : (q : ℕ) (e : Ending) → x.step ≡ UnderWay (AtRelease q e) → (flags_of n).ready ≡ false
   unset_at q e at =
       let a = at_place (AtRelease q e) at in
       ap (λ (f : Flags). f.ready) book.1.word_is ∙ m.fits.shared.ready_is ∙ holder_unset t (cell Once m.w.history) (releasing_holds Once t c m.w.history e a.0)
 
-  -- a waiter that leaves has passed its turn on just where it hands somebody out
+  -- a waiter that leaves has passed its turn on exactly if it hands somebody out
   pub passed_at : {q k : ℕ} {e : Ending} → x.step ≡ UnderWay (AtLeave q k e) → (X : List ℕ)
       → has_passed t (log ++ told t x.kept (next_at (AtCountOut e)) (pass_entries t X)) ≡ hands_out X
   passed_at {q = q} {k = k} {e = e} at X =
@@ -95,7 +95,7 @@ module _ {limit n put : ℕ} {slot : Bool} {pages : List Page} {log : List Entry
       sym (door_of c.queues made c.door door (sym book.1.door_is ∙ there)).1 ∙ stood_at limit t c m.w.history p is (at_place p at)
 
   module _ {head : Bool} {xs : List (Listing ℕ)} (queue : slice_get pages 1 ≡ Some (Queue head xs)) where
-    -- nobody holds under the lock, and nobody is listed, where the queue is taken out of the door
+    -- when the queue is taken out of the door, nobody holds under the lock, and nobody is listed
     pub bare_at : (e : Ending) → x.step ≡ UnderWay (AtDoorTake e) → (head ≡ false) × (xs ≡ [])
     bare_at e at =
         let own = queue_of c.head head c.listings xs (sym book.1.queue_is ∙ queue) in
@@ -103,7 +103,7 @@ module _ {limit n put : ℕ} {slot : Bool} {pages : List Page} {log : List Entry
         let free : c.head ≡ false = no_head c.quick c.head (sym (set_free (cell Once m.w.history) (sym m.fits.shared.ready_is ∙ r)) ∙ m.fits.shared.held_is) in
         (sym own.0 ∙ free, sym own.1 ∙ m.unowned.queue.set_empty r)
 
-    -- a task at rest: its listing has its waker where it was not called
+    -- a task at rest: if its listing has a waker, that is its own
     pub own_at : (q k : ℕ) → x.step ≡ Resting (RestWait q (Some k)) → IsOwnListing k t xs
     own_at q k at v found =
         let own = queue_of c.head head c.listings xs (sym book.1.queue_is ∙ queue) in
@@ -112,7 +112,7 @@ module _ {limit n put : ℕ} {slot : Bool} {pages : List Page} {log : List Entry
         own_found c.ready t k v (last_call Once t m.w.history).listed c.listings m.unowned.queue.set_empty
         (λ r. ⊎_elim inl (λ e. inr e.0) (a.0.2.1 r)) listed (ap (find_listing k) own.1 ∙ found)
 
-    -- a look need not compare wakers, by whether the value is set: its own listing has its waker where it was not called
+    -- a look need not compare wakers, by whether the value is set: if its own listing has a waker, that is its own
     look_by : (q : ℕ) (k : Option ℕ) → x.step ≡ UnderWay (AtLook q k) → (r : Bool) → (flags_of n).ready ≡ r
         → look_answer (Some (sees (flags_of n) head)) (is_waker x.waker (own_listing k xs)) ≡ look_answer (Some (sees (flags_of n) head)) (is_some (option_flatten (own_listing k xs)))
     look_by q k at true e = rw e refl

@@ -14,7 +14,7 @@ abbrev pub AreOn : Held Page → List Page → Type 0
 AreOn [] ps = Unit {0}
 AreOn (e ∷ h) ps = (slice_get ps e.0 ≡ Some e.1) × AreOn h ps
 
--- the page on a sheet, whoever writes
+-- the page on a sheet, whether that writes or not
 pub page_of : (ss : List Sheet) (k : ℕ) (s : Sheet) → slice_get ss k ≡ Some s → slice_get (pages_in ss) k ≡ Some s.page
 page_of [] k s e = let no : ⊥ = cc in absurd no
 page_of (z ∷ ss) zero s e = let same : z ≡ s = cc in ap (λ (s : Sheet). Some s.page) same
@@ -37,13 +37,13 @@ set_same [] k x e = refl
 set_same (y ∷ xs) zero x e = let same : y ≡ x = cc in ap (λ z. z ∷ xs) (sym same)
 set_same (y ∷ xs) (suc k) x e = ap (λ zs. y ∷ zs) (set_same xs k x e)
 
--- the sheets of a hand whose first pages are set to these, where the log is this
+-- the sheets of a hand whose first pages are set to these, with this log
 abbrev sheets_set : List Entry → List Page → Held Page → List Sheet
 sheets_set log ys [] = []
 sheets_set log [] (e ∷ h) = sheet (entries_on e.0 log) e.1 ∷ sheets_set log [] h
 sheets_set log (y ∷ ys) (e ∷ h) = sheet (entries_on e.0 log) y ∷ sheets_set log ys h
 
--- a hand agrees with the book where another page was set
+-- a hand agrees with the book after another page was set
 agrees_set : (es : Held Sheet) (k : ℕ) (y : Sheet) (ss : List Sheet) → Apart k es → Agrees es ss → Agrees es (slice_set ss k y)
 agrees_set [] k y ss a b = tt
 agrees_set (e ∷ es) k y ss a b = (set_other ss k e.0 y a.0 ∙ b.0, (b.1.0, agrees_set es k y ss a.1 b.1.1))
@@ -74,7 +74,7 @@ pub apart : (es fs : List Entry) (p : Page) (x : TaskState) → ◌≡◌ {A = O
 apart es fs p x e = let same : sheet es p ≡ writing_sheet fs x = cc in false≢true (ap (λ (s : Sheet). s.writing) same)
 
 module _ (seen log : List Entry) where
-  -- who writes goes on writing while others change their pages
+  -- a task that writes goes on writing while others change their pages
   writer_stays : (ys : List Page) (h : Held Page) (ss : List Sheet) (j : ℕ) (fs : List Entry) (x : TaskState) → Agrees (sheets seen h) ss → slice_get ss j ≡ Some (writing_sheet fs x)
       → slice_get (put (sheets_set log ys h) (sheets seen h) ss) j ≡ Some (writing_sheet fs x)
   writer_stays [] [] ss j fs x a w = w

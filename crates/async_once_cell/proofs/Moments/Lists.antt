@@ -1,4 +1,4 @@
--- A call to list oneself is the listing of the machine on the page, where room was made before the load, or was refused.
+-- A call to list oneself is the listing of the machine on the page, whether room was made before the load or was refused.
 use Rattle.std.proofs.Common.{◌≡◌, ◌⊎◌, ℕ, Bool, true, false, ◌||◌, Option, Some, ⊎_elim, refl, sym, ap, ◌∙◌}
 use Rattle.std.specs.Option.{is_some}
 use Rattle.std.proofs.lemmas.Bool.{true≢false}
@@ -27,7 +27,7 @@ module _ {W : Type 0} (whose : W → ℕ) where
     pub listings : named whose t.listings ≡ listed_list a s.ticket v (named whose s.listings)
     pub ticket : t.ticket ≡ listed_ticket a s.ticket (named whose s.listings)
 
-  -- by what is seen, where there is room
+  -- by what is seen, if there is room
   granted_by : (seen : Sees) (s : Claimant W) (w : W) (w' : Option W) (result : Answer W) (t : Claimant W)
       → (is_some (kept_ticket s.ticket s.listings) ≡ true) ⊎ (result ≡ Memory → ⊥) → Claims seen s result t
       → (seen ≡ Sees.Taken → DidList s.ticket w s.listings result t.ticket w' t.listings) → (seen ≡ Sees.Taken → t.head ≡ s.head)
@@ -44,7 +44,7 @@ module _ {W : Type 0} (whose : W → ℕ) where
       (λ d. absurd (⊎_elim (λ e. true≢false (sym e ∙ ap (λ (o : Option ℕ). is_some o) d.1)) (λ n. n d.0) fits))
       (held refl)
 
-  -- from what `list` tells, where the own ticket has a listing, or memory cannot be refused any more
+  -- from what `list` tells, if the own ticket has a listing, or memory cannot be refused any more
   pub list_shown : (seen : Sees) (s : Claimant W) (w : W) (w' : Option W) (result : Answer W) (t : Claimant W)
       → (is_some (kept_ticket s.ticket s.listings) ≡ true) ⊎ (result ≡ Memory → ⊥) → Claims seen s result t
       → (seen ≡ Sees.Taken → DidList s.ticket w s.listings result t.ticket w' t.listings) → (seen ≡ Sees.Taken → t.head ≡ s.head)
@@ -52,7 +52,7 @@ module _ {W : Type 0} (whose : W → ℕ) where
   list_shown seen s w w' result t fits claims held head =
       rw (or_true (is_some (kept_ticket s.ticket (named whose s.listings)))) (granted_by seen s w w' result t fits claims held head)
 
-  -- by what is seen, where there is no room
+  -- by what is seen, if there is no room
   refused_by : (seen : Sees) (s : Claimant W) (v : ℕ) (result : Answer W) (t : Claimant W) → Claims seen s result t
       → (seen ≡ Sees.Taken → result ≡ Memory) → (seen ≡ Sees.Taken → t ≡ s) → ListShown v (list_answer (Some seen) false) s result t
   refused_by Set s v result t claims held stays = rw (claims.0, claims.1) record { answer = refl; flag = refl; listings = refl; ticket = refl }

@@ -20,7 +20,7 @@ module _ {W : Type 0} (whose : W → ℕ) where
     pub listings : named whose t.listings ≡ looked_list a s.ticket (named whose s.listings)
     pub ticket : t.ticket ≡ looked_ticket a s.ticket
 
-  -- where some task holds all is as it was, by whether the own listing was not called
+  -- while some task holds, all stays as it was, by whether the own listing has a waker
   look_held : (l : Bool) (s : Claimant W) (result : Answer W) (t : Claimant W) → result ≡ cond l Listed Held → t ≡ s
       → LookShown (look_answer (Some Taken) l) s result t
   look_held true s result t a e = rw (a, e) record { answer = refl; flag = refl; listings = refl; ticket = refl }

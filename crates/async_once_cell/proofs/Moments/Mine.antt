@@ -100,13 +100,13 @@ module _ (t : ℕ) where
 abbrev pub OnlyOf : Held Page → List Entry → Type 0
 OnlyOf h es = (k : ℕ) → Apart k h → entries_on k es ≡ []
 
--- where the hand is a task's
+-- if the hand is a task's
 pub only_hand : (t : ℕ) (x : TaskState) (es : List Entry) → AreOf t es → OnlyOf (hand t x) es
 only_hand t x es a zero n = refl
 only_hand t x es a (suc zero) n = refl
 only_hand t x es a (suc (suc u)) n = none_of t u (λ e. n.0 (ap (λ j. suc (suc j)) e)) es a
 
--- where it has what lies under the lock besides
+-- and if it has what lies under the lock besides
 pub only_locked : (made : ℕ) (door : Option ℕ) (head : Bool) (xs : List (Listing ℕ)) (t : ℕ) (x : TaskState) (es : List Entry) → AreOf t es → OnlyOf (locked made door head xs t x) es
 only_locked made door head xs t x es a zero n = refl
 only_locked made door head xs t x es a (suc zero) n = refl

@@ -1,4 +1,4 @@
--- Each word of a list of those who wait says of the named list what it says of the list itself.
+-- Each word of a list of waiters says of the named list what it says of the list itself.
 use Rattle.std.proofs.Common.{◌≡◌, ℕ, Bool, cond, List, [], ◌∷◌, ◌++◌, map, Option, Some, None, refl, ap, ◌∙◌, arith}
 use Rattle.std.specs.Option.{is_some, option_flatten, option_map, unwrap_or}
 use Rattle.std.proofs.lemmas.Grind.{common_steps}
@@ -38,11 +38,11 @@ module _ {W : Type 0} (whose : W → ℕ) where
   own_named : (k : Option ℕ) (xs : List (Listing W)) → own_listing k (named whose xs) ≡ option_map (option_map whose) (own_listing k xs)
   own_named k xs = grind (arith, common_steps, find_named)
 
-  -- it was not called
+  -- whether it has a waker
   pub uncalled_named : (k : Option ℕ) (xs : List (Listing W)) → is_some (option_flatten (own_listing k (named whose xs))) ≡ is_some (option_flatten (own_listing k xs))
   uncalled_named k xs = grind (arith, common_steps, own_named)
 
-  -- who leaves passes its turn on
+  -- whether a task that leaves passes its turn on
   pub passes_named : (free : Bool) (n : ℕ) (xs : List (Listing W)) → passes_turn free n (named whose xs) ≡ passes_turn free n xs
   passes_named free n xs = grind (arith, common_steps, find_named)
 
@@ -51,7 +51,7 @@ module _ {W : Type 0} (whose : W → ℕ) where
   take_named n [] = refl
   take_named n (x ∷ xs) = grind (arith, common_steps, take_named n xs)
 
-  -- the same, where there may be no ticket
+  -- the same, if there may be no ticket
   pub without_named : (k : Option ℕ) (xs : List (Listing W)) → list_without k (named whose xs) ≡ named whose (list_without k xs)
   without_named k xs = grind (arith, common_steps, take_named)
 
@@ -68,21 +68,21 @@ module _ {W : Type 0} (whose : W → ℕ) where
       ∙ ap (λ zs. zs ++ record { ticket = n; waker = Some (whose w) } ∷ []) (take_named n xs)
       ∙ push_named (take_out n xs) (record { ticket = n; waker = Some w })
 
-  -- the first that was not called
+  -- the waker of the first listing that has one
   pub first_named : (xs : List (Listing W)) → first_waker (named whose xs) ≡ option_map whose (first_waker xs)
   first_named [] = refl
   first_named (x ∷ xs) = grind (arith, common_steps, first_named xs)
 
-  -- the list once the first was called
+  -- the list once that waker was handed out
   pub call_named : (xs : List (Listing W)) → call_first (named whose xs) ≡ named whose (call_first xs)
   call_named [] = refl
   call_named (x ∷ xs) = grind (arith, common_steps, call_named xs)
 
-  -- the list that one who leaves leaves
+  -- the list that is left when a task leaves
   pub left_named : (passes : Bool) (n : ℕ) (xs : List (Listing W)) → left_list passes n (named whose xs) ≡ named whose (left_list passes n xs)
   left_named passes n xs = grind (arith, common_steps, take_named, call_named)
 
-  -- and who then gets the turn
+  -- and the waker that then gets the turn
   pub next_named : (passes : Bool) (n : ℕ) (xs : List (Listing W)) → next_waker passes n (named whose xs) ≡ option_map whose (next_waker passes n xs)
   next_named passes n xs = grind (arith, common_steps, take_named, first_named)
 

@@ -1,4 +1,4 @@
--- A release of the list, and one who leaves it, are the machine's on the page, and hand out the wakers of the tasks that it names.
+-- A release of the list, and a task that leaves it, do on the page what the machine does, and hand out the wakers of the tasks that the page names.
 use Rattle.std.proofs.Common.{◌≡◌, ℕ, Bool, true, false, List, [], ◌∷◌, map, Option, Some, None, ⊎_elim, refl, sym, ap, ◌∙◌}
 use Rattle.std.specs.Option.{option_to_list}
 use Rattle.std.specs.List.{cons_option}
@@ -13,7 +13,7 @@ use Rattle.async_once_cell.specs.Inner.Named.{named, named_one, named_out}
 use Rattle.async_once_cell.proofs.Moments.Named.{call_named, first_named, left_named, next_named, passes_named, wakers_named}
 
 module _ {W : Type 0} (same other : W → W → Type 0) (apart : (v w : W) → same v w → ⊥) where
-  -- where no two wakers are told to be the same, the waker of a listing leaves it
+  -- if no two wakers are told to be the same, the waker of a listing leaves it
   leaves_at : (seen : List W) (o p : Option W) → HandsBy same other seen o p → p ≡ o
   leaves_at seen None p h = h
   leaves_at seen (Some w) p h = ⊎_elim (λ e. absurd (apart _ w (e.1.2 w))) (λ e. e.0) h
@@ -32,7 +32,7 @@ module _ {W : Type 0} (whose : W → ℕ) where
   released_list same other true xs xs' out r = ap (named whose) r.3
   released_list same other false xs xs' out r = ap (named whose) r.1 ∙ sym (call_named whose xs)
 
-  -- a release hands out the tasks that the page names: one without a value the first who was not called, one with the value all, where the page has each waker once
+  -- a release hands out the tasks that the page names: one without a value the first whose listing has a waker, one with the value all, if the page has each waker once
   pub released_out : (same other : W → W → Type 0) → ((v w : W) → same v w → ⊥) → (v : Bool) (xs xs' : List (Listing W)) (out : Out W) → Releases same other v xs out xs'
       → (v ≡ true → release_wakers true (named whose xs) ≡ wakers_of (named whose xs)) → named_out whose out ≡ release_wakers v (named whose xs)
   released_out same other apart false xs xs' out r each = ap (named_out whose) r.0 ∙ ap option_to_list (sym (first_named whose xs))
@@ -42,12 +42,12 @@ module _ {W : Type 0} (whose : W → ℕ) where
       (λ h. ap (map whose) (all_leave same other apart [] xs r.0.items h) ∙ sym (wakers_named whose xs) ∙ sym (each refl))
 
   module _ (free : Bool) (n : ℕ) (xs : List (Listing W)) where
-    -- the list that one who leaves leaves is the page's
+    -- the list that is left when a task leaves is the page's
     pub left_shown : (xs' : List (Listing W)) → xs' ≡ left_list (passes_turn free n xs) n xs
         → named whose xs' ≡ left_list (passes_turn free n (named whose xs)) n (named whose xs)
     left_shown xs' e = ap (named whose) e ∙ sym (left_named whose (passes_turn free n xs) n xs) ∙ ap (λ b. left_list b n (named whose xs)) (sym (passes_named whose free n xs))
 
-    -- and so is the one to whom it passes its turn
+    -- and so is the task to which it passes its turn
     pub left_out : (o : Option W) → o ≡ next_waker (passes_turn free n xs) n xs
         → named_one whose o ≡ option_to_list (next_waker (passes_turn free n (named whose xs)) n (named whose xs))
     left_out o e = ap (named_one whose) e

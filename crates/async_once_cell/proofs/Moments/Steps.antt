@@ -24,7 +24,7 @@ module _ {W V Q P : Type 0} (f : W → V) (g : Q → P) where
   pub release_as : (by : Option Q) (e : Ending) → place_as f g (release_place by e) ≡ release_place (option_map g by) e
   release_as by e = grind (arith, common_steps)
 
-  -- where one leaves
+  -- where a task leaves
   leave_as : (q : Q) (n : Option ℕ) (e : Ending) → place_as f g (leave_place q n e) ≡ leave_place (g q) n e
   leave_as q n e = grind (arith, common_steps)
 
@@ -70,7 +70,7 @@ module _ {W V Q P : Type 0} (f : W → V) (g : Q → P) where
   after_as c p e = grind (arith, common_steps)
 
 module _ {W Q C : Type 0} (whose : W → ℕ) (g : Q → C) (h : ℕ → C) where
-  -- so the code and the page go on alike, where both follow the same line of the table
+  -- so the code and the page go on alike, if both follow the same line of the table
   pub stands_after : (a : Next W Q) (b : Next ℕ ℕ) (c : Next ℕ C) → next_as whose g a ≡ c → next_as (λ w. w) h b ≡ c
       → (a.closes ≡ b.closes) × (a.progress ≡ b.progress) × StandsForStep whose g h a.step b.step
   stands_after a b c l r =

@@ -1,4 +1,4 @@
--- Where the code stands at a place, the page does too. So the page may make the code's call, and goes on as the code does.
+-- If the code stands at a place, the page does too. So the page may make the code's call, and goes on as the code does.
 use Rattle.std.proofs.Common.{◌≡◌, ℕ, Bool, true, false, List, [], ◌∷◌, reverse, Option, Some, None, refl, sym, ap, ◌∙◌, subst, arith}
 use Rattle.std.proofs.lemmas.Grind.{common_steps}
 use Rattle.std.proofs.lemmas.List.{append-nil}
@@ -84,7 +84,7 @@ module _ {W : Type 0} (whose : W → ℕ) where
       page_calls v.task.step (place_as whose (λ u. u) at) (sym is) ∙ sym (call_at_as whose (λ (u : ⊤). u) at) in
       can_at v.task.step at (call_back c ∙ ap (call_as (λ w. w) (λ (u : ⊤). queue_of c)) same ∙ call_twice (queue_of c) (call_at at))
 
-  -- whom a call hands out: a look and a listing nobody
+  -- which tasks a call hands out: a look and a listing none
   abbrev pub handed_by : Told W ⊤ → List ℕ
   handed_by (Was q (Release fills) a o) = handed_in whose a
   handed_by (Was q (Leave k) a o) = handed_in whose a
@@ -102,7 +102,7 @@ module _ {W : Type 0} (whose : W → ℕ) where
   did_went v w (Was q op a o) did = (queue_of (call_in v.task.step), did.0)
   did_went v w _ did = (0, did)
 
--- a task records these in the middle of a call, they name just those whom it hands out, and say this of what an init gave
+-- a task records these in the middle of a call, they name just the tasks that it hands out, and say this of what an init gave
 abbrev pub Names : List Entry → List ℕ → (Bool → Bool) → Type 0
 Names es X gives = AreMid (reverse es) × (handed (reverse es) ≡ X) × ((gave : Bool) → gave_since gave (reverse es) ≡ gives gave)
 
@@ -115,7 +115,7 @@ release_names : (k : InitAnswer) (t : ℕ) (X : List ℕ) → NamesOnly (release
 release_names RanPending t X = ((refl, tt), append-nil X, λ gave. refl)
 release_names _ t X = ((refl, tt), append-nil X, λ gave. refl)
 
--- one who leaves
+-- a task that leaves
 pass_names : (t : ℕ) (X : List ℕ) → NamesOnly (pass_entries t X) X
 pass_names t [] = (tt, refl, λ gave. refl)
 pass_names t (x ∷ X) = ((refl, tt), append-nil (x ∷ X), λ gave. refl)

@@ -17,7 +17,7 @@ use Rattle.async_once_cell.specs.Inner.Sides.{IsTold, Sided}
 use Rattle.async_once_cell.proofs.Walk.Parts.{Went}
 use Rattle.async_once_cell.proofs.Walk.Lines.{ShownAt, line_went}
 
--- where no value is put, nothing shows one
+-- if no value is put, nothing shows one
 no_put : {W : Type 0} (at : Place W ⊤) (y : Sided) → ((by : Option ⊤) → UnderWay at ≡ UnderWay (AtPut by) → ⊥) → ShownAt at y
 no_put (AtPut by) y apart = absurd (apart by refl)
 no_put at y apart = tt

@@ -15,7 +15,7 @@ use Rattle.async_once_cell.specs.Inner.Own.{Own}
 use Rattle.async_once_cell.specs.Inner.Sides.{IsReady, Sided}
 use Rattle.async_once_cell.specs.Walks.{Fits, FitsAt, GoesOn, HasBegun, MayEnd}
 
--- how a call may end stays, whoever was handed out since
+-- how a call may end stays so, whichever wakers were handed out since
 pub may_end_on : (drops : Bool) (x y : Sided) (v w : Own) (e : Ending)
     → (y.has_error ≡ x.has_error) × (w.task.kept ≡ v.task.kept) × (y.has_value ≡ x.has_value)
     → MayEnd drops x v e → MayEnd drops y w e
@@ -27,7 +27,7 @@ may_end_on false x y v w EndError same m = (same.0 ∙ m.0, same.1 ∙ m.1)
 may_end_on false x y v w EndValue same m = same.2 ∙ m
 may_end_on false x y v w _ same m = tt
 
--- a poll goes on, where it closes its init or not, and its init gave no value yet
+-- a poll goes on, whether it closes its init or not, and its init gave no value yet
 abbrev pub Onward : Bool → Bool → Sided → Own → Type 0
 Onward drops closes x v = HasBegun drops x v × (closes ≡ false → IsReady x) × (x.has_value ≡ false)
 
@@ -92,12 +92,12 @@ module _ (W : Type 0) (drops : Bool) (x : Sided) (v : Own) where
   release_fits None e m = m
   release_fits (Some q) e m = m
 
-  -- where one leaves
+  -- where a task leaves
   pub leave_fits : (q : ⊤) (k : Option ℕ) (e : Ending) → (x.woke ≡ []) × MayEnd drops x v e → FitsAt drops x v (leave_place {W = W} q k e)
   leave_fits q None e m = m.1
   leave_fits q (Some n) e m = m
 
-  -- where memory was refused to one who waits
+  -- where a task leaves to which memory was refused
   refused_fits : (q : ⊤) (k : Option ℕ) → HasBegun drops x v → FitsAt drops x v (leave_place {W = W} q k EndMemory)
   refused_fits q k b = leave_fits q k EndMemory (b.1, ends_by EndMemory b tt)
 

@@ -51,7 +51,7 @@ use Rattle.async_once_cell.proofs.Walk.Fits.{list_fits, load_fits, look_fits, ma
 use Rattle.async_once_cell.proofs.Walk.Logs.{grew_on, walked_by}
 use Rattle.async_once_cell.proofs.Walk.Parts.{Went, quiet}
 
--- what the init gave, where it gave an error
+-- what the init gave, if it gave an error
 error_kept : (a : Polled) (k : InitAnswer) → a ≡ Error → kept_after (unnamed a) k ≡ RanError 0
 error_kept a k e = grind (arith, common_steps)
 
@@ -81,7 +81,7 @@ given_after t Value x y value none shown = ap (λ b. b || y.has_shown) (value re
 given_after t Pending x y value none shown = ap (λ b. b || y.has_shown) (none (λ e. cc)) ∙ ap (λ b. x.has_value || b) shown
 given_after t Error x y value none shown = ap (λ b. b || y.has_shown) (none (λ e. cc)) ∙ ap (λ b. x.has_value || b) shown
 
--- what a side has of its init's value, where it has what another has
+-- what a side has of its init's value, if it has what another has
 same_given : (x y : Sided) → y.has_value ≡ x.has_value → y.has_shown ≡ x.has_shown → has_given y ≡ has_given x
 same_given x y value shown = ap (λ b. b || y.has_shown) value ∙ ap (λ b. x.has_value || b) shown
 
@@ -119,7 +119,7 @@ module _ {P S W : Type 0} (cell : P → Placed) (own : P → Own) {whose : W →
   closed_after : (b : Bool) (s m s' : S) → state m ≡ state s → MayClose side.close b m s' → Still b (state s) (state s')
   closed_after b s m s' same c = subst (λ x. Still b x (state s')) same (closed b m s' c)
 
-  -- who was handed out is called
+  -- the tasks that were handed out are woken
   woken : (s s' : S) (a : Answer W) → Wakes side.wake (out_of a) s s' → (state s).woke ≡ [] → state s' ≡ record (state s) { woke = handed_in whose a }
   woken s s' (Released out) w none = tells.wake s out s' w none
   woken s s' (Left o) w none = tells.wake s _ s' w none
@@ -198,7 +198,7 @@ module _ {P S W : Type 0} (cell : P → Placed) (own : P → Own) {whose : W →
         (gave_by whose e (given_in d) v.number, named, woke, number, gave went.0) on
         (fits went.0 went.1.number (ap (λ (x : TaskState). x.waker) went.1.task) (ap (λ (x : TaskState). x.kept) went.1.task))
 
-    -- where nobody is handed out, and the side at most closes its init
+    -- if nobody is handed out, and the side at most closes its init
     plain : (at : Place W ⊤) (e : Told W ⊤) → StandsAt p s r0 at → Did p e p' → Plain [] at e
         → Follows side.close (after None at e) s s' r t → (LeavesBoth (after None at e).closes → FitsThere (after None at e)) → HasGone
     plain at e is did (copy, none, kept, calm) (close, more, leads) fits =
@@ -210,7 +210,7 @@ module _ {P S W : Type 0} (cell : P → Placed) (own : P → Own) {whose : W →
         ) (more, leads)
         (λ n i w k. fits (record { side_is = still; number = i; waker = w; kept = k ∙ kept n }))
 
-    -- a section that hands out whom it answers, after which the task counts itself out
+    -- a section that hands out the wakers in its answer, after which the task counts itself out
     wakes : (at : Place W ⊤) (e : Told W ⊤) (a : Answer W) (end : Ending) → StandsAt p s r0 at → Did p e p' → Plain (handed_in whose a) at e × (after None at e ≡ next_at (AtCountOut end))
         → Wakes side.wake (out_of a) s s' × (r ≡ More) × (t ≡ UnderWay (AtCountOut end)) × ((state s).woke ≡ []) × MayEnd drops (state s) (own p) end → HasGone
     wakes at e a end is did ((copy, hands, kept, calm), leads) (wake, more, step, none, m) =
@@ -243,7 +243,7 @@ module _ {P S W : Type 0} (cell : P → Placed) (own : P → Own) {whose : W →
           ((λ gave. gave), (tt, refl, λ gave. refl), quiet (state s) (state s') now.woke, now.number ∙ is.number, same_given (state s) (state s') now.value now.shown) (more, leads)
           (copy_fits W drops (state s') (own p') c tt j (onward drops leaves is.fits.1))
 
-      -- where it found a holder and left this ticket: the copy is made, or its refusal is told
+      -- if it found a holder and left this ticket: the copy is made, or its refusal is told
       copied : (q : ℕ) (j : Option ℕ) (c : Option W) (m : S) → cell n ≡ cell p → Turned (own p) (copying q j (Some (own p).task.waker)) [] (own n)
           → side.copy s c m × MayRefuse (λ p t. Did p Refused t) c n p' → Follows side.close (after_copy c tt j) m s' r t → HasGone
       copied q j (Some w) m same d (copy, back) (close, more, leads) =
@@ -263,13 +263,13 @@ module _ {P S W : Type 0} (cell : P → Placed) (own : P → Own) {whose : W →
           } in
           copy_went q j None None refl (refused.0 ∙ same) after (closed_after true s m s' (tells.copy s None m copy).0 close, more, leads)
 
-      -- where it wants no copy
+      -- if it wants no copy
       seen : (a : Answer W) (o : Op W) → Did p (Was tt (Look k) a o) n → NoCopy (AtLook tt k) (Was tt (Look k) a o)
           → p' ≡ n → Follows side.close (after None (AtLook tt k) (Was tt (Look k) a o)) s s' r t → HasGone
       seen a o did copy same f = plain (AtLook tt k) (Was tt (Look k) a o) is (subst (Did p (Was tt (Look k) a o)) (sym same) did) (copy, refl, λ n. refl, λ k t gave. refl) f
           (λ l. look_fits W drops (state s') (own p') a tt (ticket_in o) (onward drops l is.fits.1))
 
-      -- where it wants one
+      -- if it wants one
       held : (a : Answer W) (o : Op W) (did : Did p (Was tt (Look k) a o) n)
           → (c : Option W) × (m : S) × side.copy s c m × MayRefuse (λ p t. Did p Refused t) c n p' × Follows side.close (after_copy c tt (ticket_in o)) m s' r t
           → Turned (own p) (copying (look_from p n k a o is.step did).0 (ticket_in o) (Some (own p).task.waker)) [] (own n) → HasGone

@@ -30,7 +30,7 @@ pub mid_append : (es fs : List Entry) → AreMid es → AreMid fs → AreMid (es
 mid_append [] fs a b = b
 mid_append (e ∷ es) fs a b = (a.0, mid_append es fs a.1 b)
 
--- who is handed out by the one and by the other
+-- the tasks that are handed out by the one and by the other
 handed_on : (es fs : List Entry) → handed (es ++ fs) ≡ handed es ++ handed fs
 handed_on [] fs = refl
 handed_on (e ∷ es) fs = ap (λ X. handed_by e ++ X) (handed_on es fs) ∙ sym (append_assoc (handed_by e) (handed es) (handed fs))

@@ -58,7 +58,7 @@ gave_in_call {t = t} e {mid = mid} {u = u} call =
     ap (gave_since false) call.own ∙ gave_on false (entries_of t u) (Begin t t ∷ (mid ++ end_of t e ∷ []))
     ∙ gave_on false mid (end_of t e ∷ []) ∙ end_is_calm (gave_since false mid) t e
 
--- a value that an init gave in a poll is shown, where none is left
+-- a value that an init gave in a poll is shown, if none is left
 shown_there : (x y : Sided) (mid : List Entry) → IsReady x → has_given y ≡ gave_since (has_given x) mid → y.has_value ≡ false
     → gave_since false mid ≡ true → y.has_shown ≡ true
 shown_there x y mid ready made none gave =

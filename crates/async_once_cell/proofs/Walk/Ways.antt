@@ -41,7 +41,7 @@ asks_more (AtLook q k) = true
 asks_more (AtPut by) = true
 asks_more at = false
 
--- where no more is asked, it is shown nothing
+-- if no more is asked, it is shown nothing
 nothing_shown : {W : Type 0} (at : Place W ⊤) (y : Sided) → asks_more at ≡ false → ShownAt at y
 nothing_shown (AtPut by) y plain = absurd (false≢true (sym plain))
 nothing_shown at y plain = tt
@@ -80,7 +80,7 @@ abbrev pub any_cell : Placed
 any_cell = record { book = record { number = 0; words_name = 0; pages_name = 0; log_name = 0 }; key = 0; id = 0; about = [] }
 
 module _ {W : Type 0} (whose : W → ℕ) where
-  -- what the calls of the parts tell of a task, where the parts are what it knows
+  -- what the calls of the parts tell of a task, if the parts are what it knows
   abbrev pub Tell : Own → Told W ⊤ → Own → Type 0
   Tell = parts_did (λ (v : Own). any_cell) (λ (v : Own). v) whose
 
@@ -101,7 +101,7 @@ module _ {W : Type 0} (whose : W → ℕ) where
         let went = line_went (λ (v : Own). any_cell) (λ (v : Own). v) (sided_told whose (λ (z : Sided). z)) false at shown is line in
         record { walked = went.walked; stands = went.stands }
 
-    -- a line where no more is asked says of what the call told that the task goes on by it
+    -- if no more is asked, a line says of what the call told that the task goes on by it
     lone : (at : Place W ⊤) (r : Progress) (s : Step W ⊤) → asks_more at ≡ false
         → Tells (call_at at) (λ e. Tell v e w × GoesOn Tell (sided_tells whose (λ (z : Sided). z)) (after None at e) e x y r s)
         → Line Tell (sided_tells whose (λ (z : Sided). z)) at v x r s w y
@@ -120,7 +120,7 @@ module _ {W : Type 0} (whose : W → ℕ) where
         (told_more (call_at at) (λ d. d ≡ e) (λ d. Tell v d w × GoesOn Tell (sided_tells whose (λ (z : Sided). z)) (after None at d) d x y n.progress n.step)
         (λ d same. subst (λ d. Tell v d w × GoesOn Tell (sided_tells whose (λ (z : Sided). z)) (after None at d) d x y n.progress n.step) (sym same) ((refl, did), goes)) tells))
 
-    -- a holder counts itself in where another waits for it
+    -- a holder that met others counts itself in
     pub added : (e : Ending) → Stands whose false x v More (UnderWay (AtAddOne e)) → DidCall whose v Added w → y ≡ x → Leads whose x v More (UnderWay (AtDoorAgain e)) y w
     added e is did same = led (AtAddOne e) Added (next_at (AtDoorAgain e)) refl refl refl is did refl same
 
@@ -160,7 +160,7 @@ module _ {W : Type 0} (whose : W → ℕ) where
         → Leads whose x v More (UnderWay (release_place by EndValue)) y w
     put by is did (has, shown) = led_by x y v w (AtPut by) (next_at (release_place by EndValue)) shown is ((refl, did), (has, refl, refl))
 
-    -- a release under the lock, and those whom it hands out are called
+    -- a release under the lock, and the tasks that it hands out are woken
     pub released : (e : Ending) (out : Out W) (o : Op W) → Stands whose false x v More (UnderWay (AtRelease tt e))
         → DidCall whose v (Was tt (Release (is_value e)) (Released out) o) w → HasWoken whose x out y → Leads whose x v More (UnderWay (AtCountOut e)) y w
     released e out o is did woken = led_by x y v w (AtRelease tt e) (next_at (AtCountOut e)) tt is (Released out, o, ((refl, did), (woken, refl, refl)))

@@ -43,7 +43,7 @@ abbrev pub head_on : Page → Bool
 head_on (Queue b xs) = b
 head_on _ = false
 
--- and who is listed
+-- and what is listed there
 abbrev pub listings_on : Page → List (Listing ℕ)
 listings_on (Queue b xs) = xs
 listings_on _ = []

@@ -1,4 +1,4 @@
--- What a task knows by the hand that it has, and what becomes of that where its init is polled.
+-- What a task knows by the hand that it has, and what becomes of that when its init is polled.
 use Rattle.std.specs.Prelude.{◌≡◌, []}
 use Rattle.once_machine.specs.declared.step.Polled.{Polled}
 use Rattle.once_machine.specs.Table.{Ran, Run}

@@ -1,4 +1,4 @@
--- What a list of those who wait shows on the queue's page: the same listings.
+-- What a list of waiters shows on the queue's page: the same listings.
 -- Each waker is told by the number of the task whose it is.
 use Rattle.std.specs.Prelude.{◌≡◌, ℕ, List, [], ◌∷◌, map, Option}
 use Rattle.std.specs.Option.{option_map, option_to_list}

@@ -43,7 +43,7 @@ abbrev pub IsWord : Named → Book → ℕ → Type 0
 IsWord w b k = (w.book ≡ b) × (w.key ≡ k)
 
 -- the entries of a step of t, the oldest first:
--- what it did, and the end of the call, where the table of places tells one
+-- what it did, and the end of the call, if the table of places tells one
 abbrev pub told : ℕ → Answer → Next ℕ ℕ → List Entry → List Entry
 told t k next did = reverse (progress_entries next.progress t 0 k ++ did)
 

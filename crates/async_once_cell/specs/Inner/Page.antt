@@ -25,7 +25,7 @@ abbrev pub queue_of : Call ℕ ℕ → ℕ
 queue_of (Section q op) = q
 queue_of _ = 0
 
--- what follows, where v is the task's waker
+-- what follows, if v is the task's waker
 abbrev pub next_of : Step ℕ ℕ → ℕ → Told ℕ ℕ → Next ℕ ℕ
 next_of (UnderWay p) v e = after (Some v) p e
 next_of s v e = record { closes = false; progress = More; step = s }

@@ -26,7 +26,7 @@ module _ {W : Type 0} (whose : W → ℕ) where
   PassesOn (Leave k) a w = has_passed w.number w.log ≡ hands_out (handed_in whose a)
   PassesOn op a w = Unit {0}
 
-  -- what each call tells: the task's page went on by the table, where a queue that was found has some number
+  -- what each call tells: the task's page went on by the table, with some number for a queue that was found
   abbrev pub DidCall : Own → Told W ⊤ → Own → Type 0
   DidCall v (Got q) w = (n : ℕ) × Went v (Got (numbered n (is_some q))) [] w
   DidCall v (PutQueue q) w = (n : ℕ) × Went v (PutQueue (numbered n (is_some q))) [] w

@@ -47,7 +47,7 @@ looked n k d = look_answer (Some (sees (flags_of n) d.head)) (is_some (option_fl
 abbrev pub listed : ℕ → Option ℕ → Bool → Desked → SectionAnswer ℕ
 listed n k room d = list_answer (Some (sees (flags_of n) d.head)) (is_some (kept_ticket k d.listings) || room)
 
--- who has this ticket passes its turn on as it leaves, by the word
+-- whether the task that has this ticket passes its turn on as it leaves, by the word
 abbrev pub passing : ℕ → ℕ → Desked → Bool
 passing n k d = passes_turn (is_free (sees (flags_of n) d.head)) k d.listings
 
@@ -73,7 +73,7 @@ section_desk room n d (SectionCall q (Release fills)) =
 section_desk room n d (SectionCall q (Leave k)) = record d { listings = left_list (passing n k d) k d.listings }
 section_desk room n d c = d
 
--- whom it hands out
+-- the wakers that it hands out
 abbrev pub section_hands : ℕ → Desked → Call ℕ ℕ → List ℕ
 section_hands n d (SectionCall q (Release fills)) = release_wakers fills d.listings
 section_hands n d (SectionCall q (Leave k)) = option_to_list (next_waker (passing n k d) k d.listings)

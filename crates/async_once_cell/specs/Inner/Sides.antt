@@ -1,5 +1,5 @@
 -- What is told of a task's own side: whether its init is there and gave something, whether it was shown its value in
--- the cell, and who was handed to it.
+-- the cell, and which wakers were handed to it.
 use Rattle.std.specs.Prelude.{◌≡◌, ◌||◌, ℕ, Bool, true, false, List, [], Option, IfSome}
 use Rattle.pagebook.specs.Slot.{Placed}
 use Rattle.once_machine.specs.declared.step.Polled.{Polled}

@@ -1,4 +1,4 @@
--- A step of a call, a call of the parts and what it told, as they look where wakers and queues have other names.
+-- A step of a call, a call of the parts and what it told, as they look with other names for wakers and queues.
 -- The code's wakers are objects, and those of a page are numbers.
 use Rattle.std.specs.Prelude.{◌≡◌, ℕ, None}
 use Rattle.std.specs.Option.{option_map}
@@ -65,7 +65,7 @@ module _ {W V Q P : Type 0} (f : W → V) (g : Q → P) where
   abbrev pub next_as : Next W Q → Next V P
   next_as n = record { closes = n.closes; progress = n.progress; step = step_as n.step }
 
--- the answer of a section, without whom it hands out
+-- the answer of a section, without the wakers that it hands out
 abbrev pub answer_as : {W V : Type 0} → Answer W → Answer V
 answer_as Ready = Ready
 answer_as Claimed = Claimed
@@ -120,6 +120,6 @@ module _ {W V Q P : Type 0} (f : W → V) (g : Q → P) where
   told_as (Ran a) = Ran a
   told_as PutValue = PutValue
 
--- the step of the code stands for that of the page, by whom a waker stands for and by what is told of a queue
+-- the step of the code stands for that of the page, by the task of each waker and by what is told of a queue
 abbrev pub StandsForStep : {W Q C : Type 0} → (W → ℕ) → (Q → C) → (ℕ → C) → Step W Q → Step ℕ ℕ → Type 0
 StandsForStep whose g h s t = step_as whose g s ≡ step_as (λ w. w) h t

@@ -1,4 +1,4 @@
--- What a task knows by its hand, where it learns of others, and where two hands are of one book.
+-- What a task knows by its hand after it learned of others, and if two hands are of one book.
 use Rattle.std.specs.Prelude.{◌≡◌, ◌≢◌, drop, take}
 use Rattle.pagebook.specs.Pages.{View}
 use Rattle.once_machine.specs.Record.{Entry}

@@ -32,7 +32,7 @@ abbrev pub closed_if : Bool → Sided → Sided
 closed_if true x = record x { has_init = false }
 closed_if false x = x
 
--- what follows by the table of places where steps under the lock led here
+-- what follows by the table of places if steps under the lock led here
 abbrev pub next_by : {W : Type 0} → Reached → Next W ⊤
 next_by NoQueue = next_at AtDoorPut
 next_by Ready = closing_at (AtCountOut EndValue)

@@ -24,7 +24,7 @@ use Rattle.once_machine.proofs.Input.Headline.{task_fits, world_fits}
 use Rattle.once_script.proofs.Door.Logged.{log_stands}
 use Rattle.once_script.proofs.Door.Late.{Clean, clean_step, is_late}
 
--- a queue stands at the door wherever some task waits
+-- a queue stands at the door while some task waits
 pub waits_stand : (K : Kind) (limit : ℕ) (inputs : List Input) (t : ℕ) → 0 < limit
     → status K t (history_of K limit inputs) ≡ Waiting → (q : ℕ) × (standing_queue (log_of K limit inputs) ≡ Some q)
 waits_stand K limit inputs t some s =
@@ -36,7 +36,7 @@ waits_stand K limit inputs t some s =
 abbrev SomeLate : (ℕ → Option Task) → Type 0
 SomeLate tasks = (u : ℕ) × (is_late (step_of (tasks u)) ≡ true)
 
--- a queue at the door of a set cell has somebody in the count, or somebody who is late
+-- a queue at the door of a set cell has a task in the count, or a late task
 abbrev IsClean : World → Type 0
 IsClean w = w.shared.ready ≡ true → IsSomeDoor w.shared → (0 < w.shared.count) ⊎ SomeLate w.tasks
 
@@ -48,11 +48,11 @@ OtherLate t tasks = (u : ℕ) × (t ≢ u) × (is_late (step_of (tasks u)) ≡ t
 split_late : (t : ℕ) (tasks : ℕ → Option Task) → SomeLate tasks → (is_late (step_of (tasks t)) ≡ true) ⊎ OtherLate t tasks
 split_late t tasks s = ⊎_elim (λ e. inl (subst (λ u. is_late (step_of (tasks u)) ≡ true) (sym e) s.1)) (λ n. inr (s.0, n, s.1)) (cases_eq t s.0)
 
--- who else was late still is
+-- another task that was late still is
 other_kept : (t : ℕ) (y : Task) (old new : ℕ → Option Task) → Puts t y old new → OtherLate t old → SomeLate new
 other_kept t y old new p o = (o.0, ap (λ v. is_late (step_of v)) (p.others o.0 o.1) ∙ o.2)
 
--- where t was not late, those who were late still are
+-- if t was not late, the tasks that were late still are
 late_kept : (t : ℕ) (y : Task) (tasks : ℕ → Option Task) → is_late (step_of (tasks t)) ≡ false → SomeLate tasks → SomeLate (put_task t y tasks)
 late_kept t y tasks n s = ⊎_elim (λ e. absurd (false≢true (sym n ∙ e))) (λ o. other_kept t y tasks (put_task t y tasks) (puts t y tasks) o) (split_late t tasks s)
 
@@ -154,12 +154,12 @@ stands_late : (K : Kind) (limit t : ℕ) (c : SharedState) (h : List Entry) (o :
 stands_late K limit t c h None a e = absurd (false≢true e)
 stands_late K limit t c h (Some x) a e = late_acts K limit t c h x.step a.step e
 
--- no queue stands where none can
+-- no queue stands if none can
 none_left : (d : Option ℕ) → ((q : ℕ) → d ≡ Some q → ⊥) → d ≡ None
 none_left None n = refl
 none_left (Some q) n = absurd (n q refl)
 
--- no queue stands at the door where no call is under way, the cell is set and no task waits
+-- no queue stands at the door if no call is under way, the cell is set and no task waits
 pub no_queue_kept : (K : Kind) (limit : ℕ) (inputs : List Input) → 0 < limit → is_set (cell K (history_of K limit inputs)) ≡ true
     → ((t : ℕ) → is_under_way (status K t (history_of K limit inputs)) ≡ false) → ((t : ℕ) → status K t (history_of K limit inputs) ≢ Waiting) → standing_queue (log_of K limit inputs) ≡ None
 no_queue_kept K limit inputs some set idle awake =

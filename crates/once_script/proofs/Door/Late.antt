@@ -1,4 +1,4 @@
--- A queue at the door of a set cell has somebody in the count, or somebody who sees to it.
+-- A queue at the door of a set cell has a task in the count, or one that sees to it.
 use Rattle.std.proofs.Common.{◌≡◌, ◌<◌, ℕ, Bool, true, false, ◌⊎◌, List, arith}
 use Rattle.std.proofs.lemmas.Bool.Decides.{nat_tests}
 use Rattle.std.proofs.lemmas.Grind.{common_steps}

@@ -18,12 +18,12 @@ pub record LogFits (c : SharedState) (log : List QueueLine) : Type 0 where
   pub sound : IsSound log
   pub fresh : (q : ℕ) → c.queues < q → was_put q log ≡ false
 
--- the queue is taken out where it stands
+-- the queue is taken out if one stands
 pub log_take : (c : SharedState) (d : Option ℕ) (log : List QueueLine) → c.door ≡ d → LogFits c log → LogFits (take_shared c) (take_lines d ++ log)
 log_take c (Some q) log e f = record { door_is = refl; sound = (f.door_is ∙ e, f.sound); fresh = f.fresh }
 log_take c None log e f = record { door_is = f.door_is ∙ e; sound = f.sound; fresh = f.fresh }
 
--- every section is entered on the queue at the door, a queue is put only where none stands, and taken where it stands
+-- every section is entered on the queue at the door, a queue is put only if none stands, and taken out only if it stands
 module _ (K : Kind) (limit : ℕ) (c : SharedState) (t w : ℕ) (k a : Answer) (g : Bool) (h : List Entry) (log : List QueueLine) (f : LogFits c log) where
   -- one place after the other
   log_at : (p : Place ℕ ℕ) → AtPlace K limit t c h p → LogFits (place_step (is_lazy K) limit c t w k a g p).shared (place_lines g c p ++ log)

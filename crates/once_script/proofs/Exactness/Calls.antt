@@ -52,12 +52,12 @@ told_one Refuse T t = (Refused, refl, t)
 told_one Run T (a, t) = (Ran a, refl, t)
 told_one Put T t = (PutValue, refl, t)
 
--- a section's answer without those whom it hands out
+-- a section's answer without the wakers that it hands out
 abbrev nameless_answer : SectionAnswer ℕ → SectionAnswer ℕ
 nameless_answer Gone = Gone
 nameless_answer a = Left None
 
--- what is told, as the machine tells it: there whom a section hands out stands apart, in `hands`
+-- what is told, as the machine tells it: there the wakers that a section hands out stand apart, in `hands`
 abbrev pub nameless : Told ℕ ℕ → Told ℕ ℕ
 nameless (Was q (ReleaseOp fills) a o) = Was q (ReleaseOp fills) (nameless_answer a) o
 nameless (Was q (LeaveOp k) a o) = Was q (LeaveOp k) (nameless_answer a) o

@@ -22,7 +22,7 @@ module _ (K : Kind) (limit t : ℕ) (a : Answer) (granted : Bool) where
       let before = world_of K limit inputs in
       ap (λ w. go_world (is_lazy K) limit w t a granted (w.tasks t)) (idle_steps inputs idle n) ∙ passed_over (is_lazy K) limit before t a granted (before.tasks t) idle
 
-  -- a world that stands after k steps stands after n, where no call is under way after k
+  -- a world that stands after k steps stands after n, if no call is under way after k
   pub rest_passed_over : (inputs : List Input) (w : CodeWorld) (k n : ℕ) → k ≤ n
       → IsAfter K limit (replicate k (Go t a granted) ++ inputs) w → IsIdle ((world_in w).tasks t)
       → IsAfter K limit (replicate n (Go t a granted) ++ inputs) w

@@ -13,7 +13,7 @@ use Rattle.once_machine.specs.Machine.{SharedState, Outcome}
 use Rattle.once_script.specs.Side.{DidClose, DidCopy, DidPut, DidRun, DidWake, answers_in}
 use Rattle.once_script.specs.WorldShown.{claim_entries, freed_entries, handed_entries, progress_entries, ran_entries}
 
--- what a call of a core tells and leaves, where wakers are numbers
+-- what a call of a core tells and leaves, if wakers are numbers
 abbrev pub NumberCall : CoreState ℕ → Told ℕ ℕ → CoreState ℕ → Type 0
 NumberCall = DidCall (λ a b. a ≡ b) (λ a b. a ≢ b)
 

@@ -1,4 +1,4 @@
--- What a section hands out where wakers are numbers, from what the comparisons of wakers tell.
+-- What a section hands out if wakers are numbers, from what the comparisons of wakers tell.
 use Rattle.std.proofs.Common.{◌≡◌, ◌≢◌, ℕ, ◌<◌, Bool, true, false, cond, ◌==◌, inl, inr, List, [], ◌∷◌, Option, Some, None, length, slice_index_or, zero, suc, refl, sym, ap, ◌∙◌, arith}
 use Rattle.std.specs.List.{cons_option}
 use Rattle.std.proofs.lemmas.Bool.{ne_eqb}
@@ -35,7 +35,7 @@ other_member w (x ∷ xs) o =
 seen_again : (w v : ℕ) (xs : List ℕ) → member w xs ≡ true → member v (w ∷ xs) ≡ member v xs
 seen_again w v xs m = grind (arith, nat_tests)
 
--- one listing leaves, where what comes after it is told by those that were seen until then
+-- one listing leaves, if what comes after it is told by the wakers that were seen until then
 hands_by : (o out : Option ℕ) (seen before rest : List ℕ) (after : List ℕ → List ℕ)
     → ((w : ℕ) → member w seen ≡ member w before) → HandsBy (λ a b. a ≡ b) (λ a b. a ≢ b) seen o out
     → ((now : List ℕ) → ((w : ℕ) → member w (cons_option o seen) ≡ member w now) → rest ≡ after now)

@@ -1,4 +1,4 @@
--- Where every step is given memory, no call ends for want of it.
+-- If every step is given memory, no poll ends for want of it.
 use Rattle.std.proofs.Common.{◌≡◌, ◌<◌, ℕ, Bool, true, false, cond, ⊎_elim, List, [], ◌∷◌, ◌++◌, refl, sym, ap, ◌∙◌, arith}
 use Rattle.std.proofs.lemmas.Grind.{common_steps}
 use Rattle.std.proofs.lemmas.Bool.{false≢true, cases_Bool}
@@ -20,7 +20,7 @@ granted_after true fits i g a b = refl
 granted_after false true i g a b = rw a b
 granted_after false false i g a b = b
 
--- where every step is given memory, each Go of a call is
+-- if every step is given memory, each Go of a call is
 always_granted : (K : Kind) (t : ℕ) (parts : List Part) → all_granted (inputs_of parts) ≡ true → all_granted (gos K t parts) ≡ true
 always_granted K t [] g = refl
 always_granted K t (p ∷ before) g =
@@ -38,11 +38,11 @@ no_memory K t (p ∷ before) a g =
     let here : ends_for_memory t p.entries ≡ false = ⊎_elim (λ e. absurd (false≢true (sym (a.0 t e) ∙ always_granted K t (p ∷ before) g))) (λ e. e) (cases_Bool (ends_for_memory t p.entries)) in
     ends_for_memory-append t p.entries (entries_of before) ∙ rw here ih
 
--- where every step is given memory, no record that belongs to these inputs has a call that ended for want of it
+-- if every step is given memory, no record that belongs to these inputs has a poll that ended for want of it
 granted_memory : (kind : Kind) (inputs : List Input) (h : List Entry) (t : ℕ) → (parts : List Part) × FallsInto kind inputs h parts → all_granted inputs ≡ true → ends_for_memory t h ≡ false
 granted_memory kind inputs h t b g = let f = b.1 in rw (← f.entries_are) (no_memory kind t b.0 f.memory (ap all_granted f.inputs_are ∙ g))
 
--- where every step is given memory, the record has no call that ended for want of it
+-- if every step is given memory, the record has no poll that ended for want of it
 pub ample_memory : (kind : Kind) (limit : ℕ) (inputs : List Input) (t : ℕ) → 0 < limit → all_granted inputs ≡ true
     → ends_for_memory t (history_of kind limit inputs) ≡ false
 ample_memory kind limit inputs t some g = let b = belongs kind limit inputs some in granted_memory kind inputs (history_of kind limit inputs) t (b.0, b.1) g

@@ -54,6 +54,6 @@ step_drops_so K limit t c h s a = grind (arith, nat_tests, common_steps, place_a
 pub step_made : (K : Kind) (limit t : ℕ) (c : SharedState) (h : List Entry) (s : Step ℕ ℕ) → AtStep K limit t c h s → [] ≡ make_part (status K t h) t
 step_made K limit t c h s a = grind (arith, nat_tests, common_steps, place_acts)
 
--- a call is under way exactly where the record says so
+-- a call is under way exactly if the record says so
 pub step_acts : (K : Kind) (limit t : ℕ) (c : SharedState) (h : List Entry) (s : Step ℕ ℕ) → AtStep K limit t c h s → is_under_way (status K t h) ≡ in_call s
 step_acts K limit t c h s a = grind (arith, nat_tests, common_steps, place_acts)

@@ -12,7 +12,7 @@ module _ {E : Type 0} (ce : Coded E) where
   rest_of [] = []
   rest_of (g ∷ gs) = gs
 
-  -- where the codes of one log begin those of another, the one begins the other
+  -- if the codes of one log begin those of another, the one begins the other
   pub prefix_of_codes : (xs ys : List E) (t : List Gv) → map ce.code xs ++ t ≡ map ce.code ys → IsPrefix xs ys
   prefix_of_codes [] ys t e = (ys, refl)
   prefix_of_codes (x ∷ xs) [] t e = absurd (cons≢nil e)

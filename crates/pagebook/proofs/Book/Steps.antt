@@ -133,7 +133,7 @@ module _ {M : Type 1} {𝓤 : Ura M} (𝓛 : Logic 𝓤) where
         nothing ! $ fpack ! (holds ns ps log) (λ _. ftrue) so $ move ! (3 ∷ 0 ∷ []) $ fjoin ! $
         move ! (1 ∷ 2 ∷ 0 ∷ []) $ fjoin3 ! $ fpack ! State (state ce.code cp.code holds bk) (ns, (ps, log)) $ done !
 
-    -- what the book is like for one who has seen the log l
+    -- what the book is like for a thread that has seen the log l
     abbrev Looks : List E → State → Pr
     Looks l s = guard 𝓤 (holds s.0 s.1.0 s.1.1 × IsPrefix l s.1.1) (⟦ Words s.0 ⟧ ∗ ⟦ Pages s.1.0 ⟧ ∗ ⟦ Log s.1.1 ⟧)
 
@@ -148,12 +148,12 @@ module _ {M : Type 1} {𝓤 : Ura M} (𝓛 : Logic 𝓤) where
     Opening l = some (λ (s : State). given (holds s.0 s.1.0 s.1.1 × IsPrefix l s.1.1)
         (‵ (Words s.0) ⊛ ‵ (Pages s.1.0) ⊛ ‵ (Log s.1.1)))
 
-    -- the log that is told to one who has seen two
+    -- the log that is told to a thread that has seen two
     abbrev pub Learned : List E → List E → List E → Pr
     Learned x y log = guard 𝓤 (IsPrefix x log × IsPrefix y log × ((ns : List ℕ) × (ps : List P) × holds ns ps log)) ⟦
         Knows log ⟧
 
-    -- who has seen two logs of a book learns one that begins with both, and of which the rule holds
+    -- a thread that has seen two logs of a book learns one that begins with both, and of which the rule holds
     pub learns : (x y : List E) → ⟦ Knows x ⟧ ∗ ⟦ Had y ⟧ ⊢ H.⇛ (ex 𝓤 (Learned x y))
     learns x y = let Z : Pr = ex 𝓤 (Learned x y) in
         qed 𝓛 (‵ (Knows x) ∷ ‵ (Had y) ∷ []) ∵ use1 𝓛 (‵ There ⊛ ‵ (Had x)) (seen_opened x) $ split ! $

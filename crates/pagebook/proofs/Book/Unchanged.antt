@@ -3,7 +3,7 @@ use Rattle.std.proofs.Common.{◌≡◌, ℕ, List, [], ◌++◌, set, sym, subs
 use Rattle.pagebook.specs.Pages.{Moves, Sure}
 use Rattle.pagebook.proofs.Rows.{set_found}
 
--- where the rule says what is found, the load tells it
+-- if the rule says what is found, the load tells it
 pub load_keeps : {E P : Type 0} (holds : List ℕ → List P → List E → Type 0) (log : List E) (k m : ℕ)
     → Sure holds log k m → Moves holds (log, []) k (λ n. n) (λ n u. n ≡ m)
 load_keeps {E} {P} holds seen k m sure = record {

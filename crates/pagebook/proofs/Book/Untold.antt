@@ -1,4 +1,4 @@
--- What steps without bytes can't tell. No function needs it: it says why the value of a `Slot` is ordered before those who read it.
+-- What steps without bytes can't tell. No function needs it: it says why the value of a `Slot` is ordered before the threads that read it.
 use Rattle.std.proofs.Common.{◌≡◌, ◌∙◌, ℕ, List, ◌++◌, [], Some, set, slice_get, append-nil}
 use mathlib.Core.List.{IsPrefix}
 use Rattle.pagebook.specs.Pages.{View, Agrees, Moves, Notes, Sure}

@@ -1,4 +1,4 @@
--- A lock whose type names its key is `Send` and `Sync` where its content is `Send`.
+-- A lock whose type names its key is `Send` and `Sync` if its content is `Send`.
 use Rattle.pagebook.specs.contracts.tied.LockOf
 use Rattle.pagebook.specs.contracts.tied.Tied
 use Rattle.pagebook.specs.declared.tied.Key

@@ -52,7 +52,7 @@ module _ {M : Type 1} {𝓤 : Ura M} (𝓛 : Logic 𝓤) (δ : ℕ) where
   pub cut : (k : ℕ) (g : Gv) → ⟦ part δ k full_share g ⟧ ⊢ ⟦ InBook k g ⟧ ∗ ⟦ InPen k g ⟧
   cut k g = entry_cut page_algebra 𝓛 δ k (quarter, g) (three_quarters, g) (full_share, g) (two_parts g)
 
-  -- whoever has the whole of a page may set it to any value, and has its two parts with that value
+  -- a thread that has the whole of a page may set it to any value, and then has its two parts with that value
   pub set_whole : (k : ℕ) (g h : Gv) → ⟦ part δ k full_share g ⟧ ⊢ upd 𝓤 (⟦ InBook k h ⟧ ∗ ⟦ InPen k h ⟧)
   set_whole k g h = let B : Share × Gv → Type 0 = λ x. Path (Share × Gv) x (full_share, h) in
       let F : Share × Gv → Pr = λ x. guard 𝓤 (B x) ⟦ entry page_algebra δ k x ⟧ in
@@ -73,7 +73,7 @@ module _ {M : Type 1} {𝓤 : Ura M} (𝓛 : Logic 𝓤) (δ : ℕ) where
       subst (λ (y : Share × Gv). ⟦ entry page_algebra δ k y ⟧ ⊢ Z) m.1
       (guard_i 𝓤 (g ≡ h) ⟦ part δ k full_share g ⟧ m.0.1))))
 
-  -- the same where the parts stay apart
+  -- the same, with the parts still apart
   one_value : (k : ℕ) (g h : Gv) → ⟦ InBook k g ⟧ ∗ ⟦ InPen k h ⟧ ⊢ guard 𝓤 (g ≡ h) (⟦ InBook k g ⟧ ∗ ⟦ InPen k h ⟧)
   one_value k g h = qed 𝓛 (‵ (InBook k g) ∷ ‵ (InPen k h) ∷ []) ∵
       use2 𝓛 (given (g ≡ h) (‵ (part δ k full_share g))) (whole_again k g h) $ learn ! (λ e. check ! e $

@@ -1,4 +1,4 @@
--- A `Slot` may go to another thread where its value may, and be shared where its value may do both. A `Written` holds a name alone.
+-- A `Slot` may go to another thread if its value may, and be shared if its value may do both. A `Written` holds a name alone.
 use Rattle.std.proofs.Common.{ℕ, List}
 use base.Fraction.{full_share}
 use base.Shift.{Keyless}

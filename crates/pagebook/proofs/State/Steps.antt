@@ -109,7 +109,7 @@ module _ {M : Type 1} {𝓤 : Ura M} (𝓛 : Logic 𝓤) (R : RattleType) (fits 
       fsplit3 ! $ move ! (2 ∷ []) $ fsplit ! $ move ! (2 ∷ 3 ∷ []) $ fjoin ! $ move ! (3 ∷ 0 ∷ 1 ∷ []) $
       fjoin3 ! $ fjoin ! $ fpack ! (ℕ × S) (standing R fits d t b o) (n, s) $ done !
 
-  -- what the one who writes has
+  -- what the thread that writes has
   abbrev pub MayWrite : Fml
   MayWrite = fsep (fobs γ gnil) (fsep (tie R fits d t b o empty) (lent R fits d t b o empty))
 
@@ -182,7 +182,7 @@ module _ {M : Type 1} {𝓤 : Ura M} (𝓛 : Logic 𝓤) (R : RattleType) (fits 
   abbrev Into : (ℕ → ℕ) → (ℕ → Fml) → ℕ → S → Pr
   Into f also n s = ⟦ beside (f n) s ⟧ ∗ ⟦ also n ⟧
 
-  -- whoever finds 0 may write
+  -- a thread that finds 0 may write
   claims : (n : ℕ) (s : S) → n ≡ 0 → ⟦ beside n s ⟧ ∗ emp 𝓤 ⊢ upd 𝓤 (ex 𝓤 (Into (λ _. 1) (λ _. MayWrite) n))
   claims n empty z = let G : S → Pr = Into (λ _. 1) (λ _. MayWrite) n in
       qed 𝓛 (‵ (beside n empty) ∷ raw (emp 𝓤) ∷ []) ∵ suffices ! _ (upd_i 𝓤 (ex 𝓤 G)) $ fsplit3 ! $ move ! (1 ∷ []) $
@@ -198,7 +198,7 @@ module _ {M : Type 1} {𝓤 : Ura M} (𝓛 : Logic 𝓤) (R : RattleType) (fits 
   abbrev pub Wrote : R.Denot → ℕ → Fml
   Wrote x n = fsep (written R γ x) (known (n ≡ 1))
 
-  -- whoever may write, and wrote x, makes the slot full. It finds 1
+  -- a thread that may write, and wrote x, makes the slot full. It finds 1
   fills : (x : R.Denot) → fits d.about x → (n : ℕ) (s : S) → ⟦ beside n s ⟧ ∗ (A.obs γ gnil ∗ ⟦ ToRead x ⟧)
       ⊢ upd 𝓤 (ex 𝓤 (Into (λ _. 2) (Wrote x) n))
   fills x fit n empty = let c : Gv = sign R (full x) in let Z : Pr = ex 𝓤 (Into (λ _. 2) (Wrote x) n) in

@@ -30,7 +30,7 @@ module _ (X : RattleType) where
   abbrev pub Token : RattleType
   Token = Struct record { name = []; args = []; types = []; fields = marker.the_row X ∷ [] }
 
-  -- whoever likes has one, since it has no bytes
+  -- there is always one to be had, since it has no bytes
   pub token_made : {M : Type 1} {𝓤 : Ura M} (𝓛 : Logic 𝓤)
       → ent 𝓤 (emp 𝓤) (sem 𝓛 (Token.own_val (record {}, tt) (token_value ∷ [])))
   token_made 𝓛 = makes_shadow 𝓛 (Token.own_val (record {}, tt) (token_value ∷ []))

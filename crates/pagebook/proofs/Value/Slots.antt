@@ -17,7 +17,7 @@ use Rattle.core.proofs.once.Turns.{one_value}
 use Rattle.pagebook.specs.Slot.{full, sign, written}
 use Rattle.pagebook.specs.contracts.slot.Written as Written
 
--- whoever knows what is written has a token of it
+-- a thread that knows what is written has a token of it
 pub written_made : {M : Type 1} {𝓤 : Ura M} (𝓛 : Logic 𝓤) (R : RattleType) (γ : ℕ) (x : R.Denot)
     → ent 𝓤 (sem 𝓛 (written R γ x)) (sem 𝓛
     ((Written.the_row R).own_val (record { marker = record {}; of = γ; value = x }) (token_value ∷ [])))

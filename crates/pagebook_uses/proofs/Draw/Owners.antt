@@ -1,4 +1,4 @@
--- Whom a number belongs to, and that this stays once the next number is given.
+-- Which page a number belongs to, and that this stays so once the next number is given.
 use Rattle.std.proofs.Common.{◌≡◌, ℕ, zero, suc, ◌<◌, ◌==◌, Bool, true, false, cond, List, [], ◌∷◌, ◌++◌, slice_get, Some, refl, sym, ap, ◌∙◌, arith}
 use Rattle.std.proofs.lemmas.Bool.{eq-eqb, eqb-true}
 use mathlib.Core.Logic.{◌⊎◌, inl, inr}

@@ -27,7 +27,7 @@ unchanged ns n ps kept at = record {
 pub none_yet : IsDealt (0 ∷ []) []
 none_yet = record { next = 0; owner = λ x. x; words = refl; pages = λ k p at. absurd (nothing_there k p at) }
 
--- what the two pages in a hand say, in the words of those who drew
+-- what the two pages in a hand say, in the words of the two that drew
 pub apart_as : (h : Held Drawn) (j k : ℕ) (p q : Drawn) (xs ys : List ℕ) → h ≡ (j, p) ∷ (k, q) ∷ [] → xs ≡ p.numbers
     → ys ≡ q.numbers → TwoApart h → NoCommon xs ys
 apart_as h j k p q xs ys is one two apart = subst (λ (zs : List ℕ). NoCommon xs zs) (sym two)

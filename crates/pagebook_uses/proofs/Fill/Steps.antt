@@ -1,4 +1,4 @@
--- Each step of the shelf keeps its rule, and who has seen the entry is sure of the value.
+-- Each step of the shelf keeps its rule, and a thread that has seen the entry is sure of the value.
 use Rattle.std.proofs.Common.{◌≡◌, ℕ, List, [], ◌∷◌, ◌++◌, set, slice_get, refl, sym, ap, ◌∙◌, subst, arith, append-nil, Some}
 use Rattle.pagebook.specs.Pages.{Held, Moves, Agrees}
 use Rattle.pagebook.proofs.Rows.{same_there}
@@ -24,7 +24,7 @@ state_found : (ns : List ℕ) (ps : List Stage) (log : List Filled) (kept : IsSh
 state_found ns ps log kept n at = same_there n (state_of kept.stage)
     (sym at ∙ ap (λ (ms : List ℕ). slice_get ms 1) kept.words)
 
--- a step of the one who fills, from one stage to the next: the word k becomes m, and the log gets `more`
+-- a step of the thread that fills, from one stage to the next: the word k becomes m, and the log gets `more`
 pub comes_to : (seen : List Filled) (h : Held Stage) (from to : Stage) (k m : ℕ) (more : List Filled) → (0, from)
     ∷ [] ≡ h → log_of from ++ more ≡ log_of to
     → set (bit_of from ∷ state_of from ∷ []) k m ≡ bit_of to ∷ state_of to ∷ []
@@ -40,7 +40,7 @@ comes_to seen h from to k m more is logs sets = subst
           (to ∷ [], [], more, record { stage = to; words = words; page = page; entries = log_is }, (refl, log_is));
     }
 
--- the same, where the number found is told
+-- the same, and the number found is told
 pub comes_from : (seen : List Filled) (h : Held Stage) (from to : Stage) (m : ℕ) (more : List Filled) → (0, from)
     ∷ [] ≡ h → log_of from ++ more ≡ log_of to
     → set (bit_of from ∷ state_of from ∷ []) 1 m ≡ bit_of to ∷ state_of to ∷ []

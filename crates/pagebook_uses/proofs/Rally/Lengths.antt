@@ -17,7 +17,7 @@ two_on : (b : Bool) → not (not b) ≡ b
 two_on true = refl
 two_on false = refl
 
--- after as many hits of both the one who begins has its turn
+-- after as many hits of both, the player who begins has its turn
 pub even_pings : (n : ℕ) → pings_next (n + n) ≡ true
 even_pings zero = refl
 even_pings (suc n) = ap pings_next (twice n) ∙ (two_on (pings_next (n + n)) ∙ even_pings n)

@@ -69,7 +69,7 @@ pub looks_back : (seen : List Hit) (h : Held ℕ) (mine : ℕ) → (1, mine) ∷
 looks_back seen h mine is = subst (λ (i : Held ℕ). Moves IsRally (seen, i) 0 (λ n. n) (LookedBack mine (seen, i))) is
     (looks_back_at seen mine)
 
--- the one who begins hits after a rally with as many hits of both
+-- the player who begins hits after a rally with as many hits of both
 pinged : (log : List Hit) (n : ℕ) → log ≡ rally (n + n) → log ++ Ping ∷ [] ≡ rally (suc (n + n))
 pinged log n is = ap (λ (l : List Hit). l ++ Ping ∷ []) is
     ∙ ap (λ b. rally (n + n) ++ cond b Ping Pong ∷ []) (sym (even_pings n))

@@ -20,7 +20,7 @@ IsVisitor (OfVisitor b) = Unit {0}
 found_is : (ns : List ℕ) (n m : ℕ) → ns ≡ m ∷ [] → slice_get ns 0 ≡ Some n → n ≡ m
 found_is ns n m is at = same_there n m (sym at ∙ ap (λ (ms : List ℕ). slice_get ms 0) is)
 
--- where the one word is as it should be, so it is after the step
+-- if the one word is as it should be, it is so after the step
 word_after : (ns : List ℕ) (n m n' m' : ℕ) → ns ≡ m ∷ [] → slice_get ns 0 ≡ Some n → (n ≡ m → n' ≡ m')
     → set ns 0 n' ≡ m' ∷ []
 word_after ns n m n' m' is at so = ap (λ (ms : List ℕ). set ms 0 n') is

@@ -34,13 +34,13 @@ two_pages [] p e = let no : ⊥ = cc in absurd no
 two_pages (x ∷ []) p e = let no : ⊥ = cc in absurd no
 two_pages (x ∷ y ∷ ps) p e = omega arith
 
--- a page that is there stays where one is added
+-- a page that is there stays when one is added
 get_added : {X : Type 0} (xs : List X) (j : ℕ) (x y : X) → slice_get xs j ≡ Some x → slice_get (xs ++ y ∷ []) j ≡ Some x
 get_added [] j x y e = let no : ⊥ = cc in absurd no
 get_added (z ∷ xs) zero x y e = e
 get_added (z ∷ xs) (suc j) x y e = get_added xs j x y e
 
--- the state of the slot stays where a sheet is added
+-- the state of the slot stays when a sheet is added
 state_added : (k : ℕ) (slot : Bool) (ss : List Sheet) (s : Sheet) → IsState k slot ss → IsState k slot (ss ++ s ∷ [])
 state_added k slot ss s (inl a) = inl a
 state_added k slot ss s (inr (inl a)) = inr (inl a)
@@ -93,11 +93,11 @@ made_notes seen = record {
       );
 }
 
--- what a look tells: the cell of the log is set where the word is ready, and then a Fill stands in it
+-- what a look tells: the cell of the log is set exactly if the word is ready, and then a Fill stands in the log
 abbrev pub LookTells : ℕ → List Entry → Type 0
 LookTells n log = ((flags_of n).ready ≡ is_set (cell Once (reverse log))) × ((flags_of n).ready ≡ true → WasFilled 0 log)
 
--- a look for the value, with any hand of those who do not write
+-- a look for the value, with any hand of tasks that do not write
 pub looked_moves : (seen : List Entry) (h : Held Page)
     → Moves IsKept (seen, sheets seen h) 0 (λ n. n) (λ n v. LookTells n v.0 × Leaves seen h [] (Look (cond (flags_of n).ready (Some 0) None) ∷ []) v)
 looked_moves seen h = telling_moves seen h (λ n. n) (λ n. []) (λ n. Look (cond (flags_of n).ready (Some 0) None) ∷ []) LookTells (λ n. only_look h (cond (flags_of n).ready (Some 0) None))
@@ -142,7 +142,7 @@ module _ (seen : List Entry) (t : ℕ) (x : TaskState) where
       (told_of t (kept_after a x.kept) (after_run (polled_of a) by) (Ran t a ∷ []) (one_of t (Ran t a) (eqb_self t)))
       (λ n put slot pages log book pen. init_ran most n put slot pages log some book t x pen by a unnamed at)
 
-  -- AtDoorPut where memory is refused
+  -- AtDoorPut if memory is refused
   pub unput_notes : x.step ≡ UnderWay AtDoorPut
       → Notes IsKept (seen, sheets seen (hand t x))
       (λ v. Unit {0} × Leaves seen (hand t x) (At (record x { step = (closing_end EndMemory).step }) ∷ []) (told t x.kept (closing_end EndMemory) []) v)

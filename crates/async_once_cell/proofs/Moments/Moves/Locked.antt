@@ -61,19 +61,19 @@ module _ (seen : List Entry) (d : Desked) (t : ℕ) (x : TaskState) where
     abbrev Set : Desked → Type 0
     Set e = IsBook most n put slot (put_on (pages_after e next) all pages) (log ++ told t x.kept next did)
 
-    -- where only the queue's page changes besides the own one
+    -- if only the queue's page changes besides the own one
     only_queue : (e : Desked) → e.made ≡ d.made → e.door ≡ d.door → Makes n put slot (slice_set pages 1 (Queue e.head e.listings)) log did next → Set e
     only_queue e made door s =
         subst (λ ps. Makes n put slot (slice_set ps 1 (Queue e.head e.listings)) log did next)
         (sym (set_same pages 0 (Door d.made d.door) on.0) ∙ (λ i. slice_set pages 0 (Door (sym made i) (sym door i)))) s
 
-    -- where only the door's does
+    -- if only the door's does
     only_door : (m : ℕ) (q : Option ℕ) → Makes n put slot (slice_set pages 0 (Door m q)) log did next → Set (record d { made = m; door = q })
     only_door m q s =
         let here = set_other pages 0 1 (Door m q) zero_one ∙ on.1.0 in
         subst (λ ps. Makes n put slot ps log did next) (sym (set_same (slice_set pages 0 (Door m q)) 1 (Queue d.head d.listings) here)) s
 
-    -- where neither does
+    -- if neither does
     only_own : Makes n put slot pages log did next → Set d
     only_own s = only_queue d refl refl (subst (λ ps. Makes n put slot ps log did next) (sym (set_same pages 1 (Queue d.head d.listings) on.1.0)) s)
 
@@ -169,13 +169,13 @@ module _ (seen : List Entry) (d : Desked) (t : ℕ) (x : TaskState) where
   again_notes e at = own_notes (next_at (AtRelease 1 e)) (d.door ≡ Some 1)
       (λ n put slot pages log book on. door_again most n put slot pages log t x some book on.1.1.0 d.made d.door on.0 e at)
 
-  -- AtDoorPut where a queue stands already
+  -- AtDoorPut if a queue stands already
   pub found_notes : (q : ℕ) → x.step ≡ UnderWay AtDoorPut → d.door ≡ Some q
       → Notes IsKept (seen, sheets seen all) (λ v. Unit {0} × Leaves seen all (pages_after d (next_at (AtCountIn q))) (told t x.kept (next_at (AtCountIn q)) []) v)
   found_notes q at there = own_notes (next_at (AtCountIn q)) (Unit {0})
       (λ n put slot pages log book on. (tt, put_found most n put slot pages log t x some book on.1.1.0 d.made d.door on.0 q at there))
 
-  -- AtDoorPut where none stands: a store of 1 says that a queue was put
+  -- AtDoorPut if none stands: a store of 1 says that a queue was put
   pub new_moves : x.step ≡ UnderWay AtDoorPut → d.door ≡ None
       → Moves IsKept (seen, sheets seen all) 1 (λ k. 1)
       (λ k v. Leaves seen all (pages_after (desk_put d) (next_at (AtCountIn (suc d.made)))) (told t x.kept (next_at (AtCountIn (suc d.made))) []) v)
@@ -201,7 +201,7 @@ module _ (seen : List Entry) (d : Desked) (t : ℕ) (x : TaskState) where
   still_notes P so = notes seen all [] [] P (only_locked d.made d.door d.head d.listings t x [] tt)
       (λ n put slot pages log book on. (so n put slot pages log book on, subst (IsBook most n put slot pages) (sym (append-nil log)) book))
 
-  -- where a section is begun, its queue stands at the door
+  -- when a section begins, its queue stands at the door
   pub stand_notes : (p : Place ℕ ℕ) → IsSection (call_at p) → x.step ≡ UnderWay p
       → Notes IsKept (seen, sheets seen all) (λ v. (d.door ≡ Some (queue_of (call_at p))) × Leaves seen all [] [] v)
   stand_notes p is at = still_notes (d.door ≡ Some (queue_of (call_at p)))

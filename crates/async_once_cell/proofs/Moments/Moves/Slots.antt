@@ -29,7 +29,7 @@ writing_hand log t x = (suc (suc t), writing_sheet (entries_of t log) x) ∷ []
 pub state_at : (w put k n : ℕ) (ns : List ℕ) → ns ≡ w ∷ put ∷ k ∷ [] → slice_get ns 2 ≡ Some n → k ≡ n
 state_at w put k n ns e at = let same : ◌≡◌ {A = Option ℕ} (Some k) (Some n) = ap (λ xs. slice_get xs 2) (sym e) ∙ at in cc
 
--- each page has its entries once one is set, where the others have theirs
+-- each page has its entries once one is set, if the others have theirs
 one_set : (ss : List Sheet) (t : ℕ) (old new : Sheet) (log : List Entry) → slice_get ss (suc (suc t)) ≡ Some old → new.entries ≡ entries_of t log
     → ((j : ℕ) (s : Sheet) → slice_get ss j ≡ Some s → (j ≡ suc (suc t) → ⊥) → s.entries ≡ entries_on j log)
     → (j : ℕ) (s : Sheet) → slice_get (slice_set ss (suc (suc t)) new) j ≡ Some s → s.entries ≡ entries_on j log
@@ -125,7 +125,7 @@ written_state k slot ss w (inl s) = absurd (false≢true (sym s.1 ∙ w))
 written_state k slot ss w (inr (inl s)) = s.0
 written_state k slot ss w (inr (inr s)) = absurd (false≢true (sym s.1 ∙ w))
 
--- whoever has seen a Fill knows that the slot is written
+-- a task that has seen a Fill knows that the slot is written
 pub filled_sure : (seen : List Entry) → WasFilled 0 seen → Sure IsKept seen 2 2
 filled_sure seen f = record {
   is = λ ns n ss log k there pre.

@@ -97,7 +97,7 @@ module _ (seen : List Entry) (t : ℕ) (x : TaskState) where
   in_page q old true = goes_to x (after_count_in true (flags_of old).ready q)
   in_page q old false = At x ∷ []
 
-  -- who counts itself in records nothing
+  -- a task that counts itself in records nothing
   in_told : (r : Bool) (q : ℕ) → told t x.kept (after_count_in true r q) [] ≡ []
   in_told true q = refl
   in_told false q = refl

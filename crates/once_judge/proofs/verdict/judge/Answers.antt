@@ -1,4 +1,4 @@
--- What is kept is of the entries so far; and so it decides the next, and tells who was called.
+-- What is kept is of the entries so far; and so it decides the next, and tells which tasks were woken.
 use Rattle.std.proofs.Common.{◌≡◌, [], Some, None, MatchOption, take, sym, ◌∙◌, subst, arith}
 use Rattle.std.proofs.lemmas.Grind.{common_steps}
 use Rattle.once_machine.specs.Shown.{kind_of, entry_of, history_in}

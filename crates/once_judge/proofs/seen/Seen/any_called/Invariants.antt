@@ -1,4 +1,4 @@
--- Of the tasks so far none was called.
+-- Of the tasks so far none was woken.
 use Rattle.std.specs.List.{All}
 use Rattle.once_judge.specs.Legal.{WasCalled}
 use Rattle.once_judge.specs.Shown.{seen_of, task_in}

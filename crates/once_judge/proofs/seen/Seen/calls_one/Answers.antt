@@ -1,4 +1,4 @@
--- Nobody is handed out where none is due.
+-- An empty list may be handed out exactly if no waker is due.
 use Rattle.std.proofs.Common.{◌≡◌, ℕ, false, sym, ◌∙◌, rules, nat_cmp}
 use Rattle.std.specs.BTreeSet.{contains}
 use Rattle.std.proofs.lemmas.Bool.{false≢true}

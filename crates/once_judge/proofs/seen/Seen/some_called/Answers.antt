@@ -1,4 +1,4 @@
--- One of the two that are looked at first was called.
+-- One of the two that are looked at first was woken.
 use Rattle.std.proofs.Common.{refl}
 use Rattle.once_judge.proofs.seen.Seen.some_called.Goals as goal
 

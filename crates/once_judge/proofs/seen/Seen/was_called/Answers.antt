@@ -1,4 +1,4 @@
--- A task was called if what is kept of it says so.
+-- A task was woken if what is kept of it says so.
 use Rattle.std.proofs.Common.{subst, Decides}
 use Rattle.once_judge.specs.Seen.{TaskSeen}
 use Rattle.once_judge.specs.Legal.{WasCalled}

@@ -1,4 +1,4 @@
--- A `KeyedMutex` may go to another thread where its content may.
+-- A `KeyedMutex` may go to another thread if its content may.
 use denote.RattleType.{RattleType}
 use denote.Param.Send.{IsSend}
 use Rattle.std.specs.contracts.marker.Brand as Brand

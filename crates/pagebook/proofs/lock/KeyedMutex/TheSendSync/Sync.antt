@@ -1,4 +1,4 @@
--- Threads may share a `KeyedMutex` where its content may go to another thread.
+-- Threads may share a `KeyedMutex` if its content may go to another thread.
 use denote.RattleType.{RattleType}
 use denote.Param.Send.{IsSend, IsSync}
 use Rattle.std.specs.contracts.marker.Brand as Brand

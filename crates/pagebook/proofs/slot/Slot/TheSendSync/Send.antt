@@ -1,4 +1,4 @@
--- A `Slot` may go to another thread where its value may.
+-- A `Slot` may go to another thread if its value may.
 use denote.RattleType.{RattleType}
 use denote.Param.Send.{IsSend}
 use Rattle.pagebook.specs.declared.rule.Rule.{Ghosts}

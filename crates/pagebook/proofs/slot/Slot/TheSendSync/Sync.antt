@@ -1,4 +1,4 @@
--- Threads may share a `Slot` where its value may be sent and shared.
+-- Threads may share a `Slot` if its value may be sent and shared.
 use denote.RattleType.{RattleType}
 use denote.Param.Send.{IsSend, IsSync}
 use Rattle.pagebook.specs.declared.rule.Rule.{Ghosts}

@@ -6,7 +6,7 @@ use Rattle.async_once_cell.specs.Inner.Own.{Own, Stayed}
 use Rattle.async_once_cell.proofs.Desks.{prefix_on, went_after}
 use Rattle.async_once_cell.proofs.inner.shared.Inner.counted.Goals as goal
 
--- who stood still twice
+-- a task that stood still twice stood still
 stayed_on : (x y z : Own) → Stayed x y → Stayed y z → Stayed x z
 stayed_on x y z s t = record {
   number = t.number ∙ s.number;

@@ -1,4 +1,4 @@
--- The look is its line of the table, with the copy of the waker or its refusal. Where there is a copy, the listing follows.
+-- The look is its line of the table, with the copy of the waker or its refusal. If there is a copy, the listing follows.
 use Rattle.std.proofs.Common.{◌≡◌, ℕ, refl, sym, ap, subst, None}
 use Rattle.std.specs.Prelude.{⊤}
 use Rattle.once_machine.specs.declared.waiters.Op.TheVariants.{Look}

@@ -1,4 +1,4 @@
--- Who loads a ready word has seen the Fill, so the slot is written.
+-- A task that loads a ready word has seen the Fill, so the slot is written.
 use Rattle.std.proofs.Common.{◌≡◌, true, arith}
 use Rattle.once_machine.specs.Word.{flags_of}
 use Rattle.async_once_cell.proofs.Moments.Moves.Slots.{filled_sure}

@@ -1,4 +1,4 @@
--- Counting in is its line of the table. Where a queue was found, the release is the next, and then the task counts out.
+-- Counting in is its line of the table. If a queue was found, the release is the next, and then the task counts out.
 use Rattle.std.proofs.Common.{◌∙◌, refl}
 use Rattle.once_machine.specs.declared.waiters.Op.TheVariants.{Release}
 use Rattle.once_machine.specs.Steps.{is_value}

@@ -1,4 +1,4 @@
--- The poll of the init is its line of the table. Where it is over, it is closed, and the value is put or the right given back.
+-- The poll of the init is its line of the table. If the init is over, it is closed, and the value is put or the right given back.
 use Rattle.std.proofs.Common.{◌∙◌, refl, sym, subst}
 use Rattle.std.specs.Prelude.{⊤}
 use Rattle.once_machine.specs.declared.step.Polled.TheVariants.{Pending, Value, Error}

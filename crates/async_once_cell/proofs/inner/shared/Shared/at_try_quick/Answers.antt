@@ -1,4 +1,4 @@
--- The quick claim is its line of the table. Where it was won, the init is polled.
+-- The quick claim is its line of the table. If it was won, the init is polled.
 use Rattle.std.proofs.Common.{◌∙◌, refl, ap, None}
 use Rattle.once_machine.specs.Table.{TriedQuick, after_quick, next_at}
 use Rattle.once_machine.specs.declared.step.Place.TheVariants.{Run as AtRun, TryQuick as AtTryQuick}

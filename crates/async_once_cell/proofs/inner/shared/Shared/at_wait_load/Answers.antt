@@ -1,4 +1,4 @@
--- The load is its line of the table. Where the word is ready, the init is closed, and the task counts out.
+-- The load is its line of the table. If the word is ready, the init is closed, and the task counts out.
 use Rattle.std.proofs.Common.{◌≡◌, true, refl, sym, ap, ◌∙◌}
 use Rattle.once_machine.specs.Word.{Flags, flags_of}
 use Rattle.once_machine.specs.Table.{Loaded, after_load, closing_at}

@@ -1,4 +1,4 @@
--- The init is closed where the table says so, and the poll goes on from there.
+-- The init is closed if the table says so, and the poll goes on from where its steps under the lock led.
 use Rattle.std.proofs.Common.{false, refl, sym, subst}
 use Rattle.once_machine.specs.Steps.{leave_place}
 use Rattle.once_machine.specs.declared.step.Place.TheVariants.{CountOut as AtCountOut}

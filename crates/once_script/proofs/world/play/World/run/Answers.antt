@@ -1,4 +1,4 @@
--- Where no call is under way the world stands after the other steps too.
+-- If no call is under way, the world stands after the other steps too.
 use Rattle.std.proofs.Common.{rules, ◌≤◌, arith}
 use Rattle.once_machine.specs.Machine.{IsIdle}
 use Rattle.once_script.specs.WorldShown.{world_in}
