@@ -1,4 +1,4 @@
--- Each input keeps the invariant, so every record is a run, and at every moment somebody was called if somebody had to be.
+-- Each input keeps the invariant, so every record is a run, and at every moment somebody was woken if somebody had to be.
 pub mod Gone
 pub mod Owner
 pub mod Drops

@@ -1,5 +1,5 @@
 -- The order in which to read the proofs. Each module stands on those above it; only Listing.Apart stands on Invariant.
---   Listing    lists of listings and of numbers: what calls, fills and sections hand out, and what is left
+--   Listing    lists of listings and of numbers: what a wake, a fill and a section hand out, and what is left
 --   Steps      one step of the machine at the places where it is long, by what it finds there
 --   History    what one more entry changes, and the listings against the history
 --   Invariant  what stands for each task at each place, and what a step owes so that all of it stays
@@ -14,7 +14,7 @@
 -- The clauses of `Step` follow from specs/Table with no lemma. `replay` is in once_script.
 --
 -- The other folders are named after files and functions of src. `Answers` has the proofs of goals that are left open
--- there, and `Invariants` what a loop keeps. Where an answer has one tactic, it is there only so that an edit that
+-- there, and `Invariants` what a loop keeps. If an answer has one tactic, it is there only so that an edit that
 -- breaks its clause is refused at once.
 pub mod Listing
 pub mod Steps

@@ -15,7 +15,7 @@ pub data Move : Type 0 where
   Given : (input : Input) → Move  -- it gives the machine an input
   Refuse : (task : ℕ) → Move  -- it is refused the copy of its waker, which it asked for after a look
 
--- who looked and would list itself leaves for want of memory, if its copy is refused
+-- a task that looked and would list itself leaves for want of memory, if its copy is refused
 abbrev pub refused_step : Step ℕ ℕ → Step ℕ ℕ
 refused_step (UnderWay (AtList q n w)) = UnderWay (leave_place q n EndMemory)
 refused_step s = s
@@ -70,7 +70,7 @@ abbrev pub has_written : Step ℕ ℕ → Bool
 has_written (UnderWay p) = has_written_at p
 has_written _ = false
 
--- the slot is written where the value is set, or where a holder wrote it; and nowhere else
+-- the slot is written if the value is set or a holder wrote it, and only then
 abbrev pub SlotIs : Bool → World → Type 0
 SlotIs slot w = (slot ≡ true) ↔ ((w.shared.ready ≡ true) ⊎ ((t : ℕ) × (has_written (step_of (w.tasks t)) ≡ true)))
 

@@ -1,5 +1,5 @@
--- Somebody was called: what is promised of an empty cell for which some task waits. It does not follow from the
--- record being a run: a record in which a wake was lost may be a run too.
+-- Some task was woken (`called` in the names): this is promised of an empty cell for which a task waits. It does not
+-- follow from the record being a run: a record in which a wake was lost may be a run too.
 use Rattle.std.specs.Prelude.{◌≡◌, ℕ, true, false, ◌⊎◌, List}
 use Rattle.once_machine.specs.Numbers.{member}
 use Rattle.once_machine.specs.Record.{Kind, Entry}
@@ -7,26 +7,26 @@ use Rattle.once_machine.specs.Cell.{Empty, cell}
 use Rattle.once_machine.specs.Tasks.{Waiting, status, is_under_way, last_call}
 use Rattle.once_machine.specs.Wakers.{handed_since}
 
--- t is in a call that it began while waiting, and in which it neither claimed nor passed its turn on
+-- t is in a poll or a drop that it began while waiting, and in which it neither claimed nor passed its turn on
 pub record HasTurn (kind : Kind) (t : ℕ) (history : List Entry) : Type 0 where
   pub under_way : is_under_way (status kind t history) ≡ true  -- t is in a call
   pub began : (last_call kind t history).began ≡ Waiting  -- it waited as the call began
   pub unclaimed : (last_call kind t history).claimed ≡ false  -- it did not claim in it
   pub unpassed : (last_call kind t history).passed ≡ false  -- it did not pass its turn on in it
 
--- t was called: it waits or is in such a call,
+-- t was woken: it waits or is in such a poll or drop,
 -- and the waker of its last poll that ended Pending was handed out since that End
 abbrev pub IsCalled : Kind → ℕ → List Entry → Type 0
 IsCalled kind t history =
     ((status kind t history ≡ Waiting) ⊎ HasTurn kind t history)
     × (member (last_call kind t history).listed (handed_since t history) ≡ true)
 
--- where the cell is empty and some task waits, some task was called
+-- if the cell is empty and some task waits, some task was woken
 abbrev pub SomebodyCalled : Kind → List Entry → Type 0
 SomebodyCalled kind history =
     cell kind history ≡ Empty → (u : ℕ) → status kind u history ≡ Waiting → (t : ℕ) × IsCalled kind t history
 
--- where besides no call is under way, some task that waits was called:
+-- if besides no poll or drop is under way, some task that waits was woken:
 -- the waker of its last poll was handed out since that poll ended
 abbrev pub WaiterCalled : Kind → List Entry → Type 0
 WaiterCalled kind history =

@@ -17,18 +17,18 @@ StateCan limit c _ = Unit {0}
 abbrev pub CanStep : ℕ → SharedState → Place ℕ ℕ → Type 0
 CanStep limit c p = StateCan limit c (call_at p)
 
--- the same of a step: nothing where no call is under way
+-- the same of a step: nothing if no call is under way
 abbrev pub CanAdvance : ℕ → SharedState → Step ℕ ℕ → Type 0
 CanAdvance limit c (UnderWay p) = CanStep limit c p
 CanAdvance limit c s = Unit {0}
 
--- the same of a task: nothing where it was not made
+-- the same of a task: nothing if it was not made
 abbrev pub TaskCan : ℕ → SharedState → Option Task → Type 0
 TaskCan limit c (Some x) = CanAdvance limit c x.step
 TaskCan limit c None = Unit {0}
 
 -- the input may be taken: a task that it moves may make its step.
--- Where it makes a task, no more tasks are unfinished than there are entries
+-- If it makes a task, no more tasks are unfinished than there are entries
 abbrev pub MayTake : ℕ → World → Input → Type 0
 MayTake limit w (Go t a granted) = TaskCan limit w.shared (w.tasks t)
 MayTake limit w (Make t) = w.unfinished ≤ length w.history

@@ -28,7 +28,7 @@ first_cell (OnceWith v) = SetTo v
 first_cell (Lazy l) = Empty
 first_cell (LazyWith v) = SetTo v
 
--- Write changes the value where one is set
+-- Write changes the value if one is set
 abbrev pub write_cell : ℕ → Cell → Cell
 write_cell v (SetTo u) = SetTo v
 write_cell v c = c
@@ -82,7 +82,7 @@ abbrev pub answers_left : Kind → List Entry → List (Option ℕ)
 answers_left kind [] = first_answers kind
 answers_left kind (e ∷ before) = answers_after e (answers_left kind before)
 
--- the next answer of a lazy init: pending where none is left
+-- the next answer of a lazy init: pending if none is left
 abbrev pub next_answer : List (Option ℕ) → Answer
 next_answer (Some v ∷ l) = RanValue v
 next_answer _ = RanPending
@@ -93,12 +93,12 @@ IsNext (Lazy k) a l = a ≡ next_answer l
 IsNext (LazyWith v) a l = a ≡ next_answer l
 IsNext _ a l = Unit {0}
 
--- the value where one is set
+-- the value, if one is set
 abbrev pub got_value : Cell → Got
 got_value (SetTo v) = GotValue v
 got_value _ = GotNone
 
--- the value where one is set, else the answers left
+-- the value if one is set, else the answers left
 abbrev pub got_parts : Cell → List (Option ℕ) → Got
 got_parts (SetTo v) l = GotValue v
 got_parts _ l = GotAnswers l

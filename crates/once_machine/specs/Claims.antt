@@ -24,7 +24,7 @@ module _ {W : Type 0} where
   Claims Free s answer t = (answer ≡ Answer.Claimed) × (t ≡ claimed s)
   Claims Taken s answer t = Unit {0}
 
-  -- the waker that a claim takes out of the list, by what is seen and by the own listing: one that nobody called
+  -- the waker that a claim takes out of the list, by what is seen and by the own listing: one that was not woken
   abbrev pub spent_by : Sees → Option (Option W) → Option W
   spent_by Free o = option_flatten o
   spent_by _ o = None

@@ -32,19 +32,19 @@ abbrev pub entries_of : List Part → List Entry
 entries_of [] = []
 entries_of (p ∷ before) = p.entries ++ entries_of before
 
--- what a Make, a Poll and a Drop add, by the status of their task: nothing where they do not fit
+-- what a Make, a Poll and a Drop add, by the status of their task: nothing if they do not fit
 abbrev pub make_part : Status → ℕ → List Entry
 make_part Unmade t = Made t ∷ []
 make_part _ t = []
 
--- a Poll begins a call of a task that is fresh, waits or holds
+-- a Poll begins a poll of a task that is fresh, waits or holds
 abbrev pub poll_part : Status → ℕ → ℕ → List Entry
 poll_part Fresh t w = Begin t w ∷ []
 poll_part Waiting t w = Begin t w ∷ []
 poll_part Holding t w = Begin t w ∷ []
 poll_part _ t w = []
 
--- a Drop begins a call of such a task; that of a fresh one ends at once
+-- a Drop begins a drop of such a task; that of a fresh one ends at once
 abbrev pub drop_part : Status → ℕ → List Entry
 drop_part Fresh t = DropEnd t ∷ DropBegin t ∷ []
 drop_part Waiting t = DropBegin t ∷ []
@@ -80,11 +80,11 @@ abbrev pub AreOfGo : Bool → Kind → ℕ → Answer → List Entry → Type 0
 AreOfGo true kind t a entries = AreOfStep kind t a entries
 AreOfGo false kind t a entries = entries ≡ []
 
--- an owner's call fits where every made task is gone and the kind has the call
+-- an owner's call fits if every made task is gone and the kind has the call
 abbrev pub fits_owner : Kind → OwnerCall → List Entry → Bool
 fits_owner kind o before = if all_gone kind before then has_call kind o else false
 
--- an owner's call and what it is given, where it fits
+-- an owner's call and what it is given, if it fits
 abbrev pub own_part : Bool → OwnerCall → Got → List Entry
 own_part true o g = Own o g ∷ []
 own_part false o g = []

@@ -12,6 +12,6 @@ module _ {W : Type 0} where
   abbrev pub is_kept : Listing W → Bool
   is_kept x = not (x.ticket == hole)
 
-  -- a listing stands in the slot, and was not called
+  -- a listing stands in the slot, and was not woken
   abbrev pub is_open : Listing W → Bool
   is_open x = if is_kept x then is_some x.waker else false

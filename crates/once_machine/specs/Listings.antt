@@ -1,5 +1,5 @@
--- The list under the cell's lock: the listings of those who wait, the oldest first. A listing without a waker is one
--- that was called.
+-- The list under the cell's lock: the listings of the waiters, the oldest first. A listing without a waker is one that
+-- was woken.
 use Rattle.std.specs.Prelude.{ℕ, zero, suc, ◌+◌, ◌==◌, Bool, true, false, if◌then◌else◌}
 use Rattle.std.specs.Prelude.{List, [], ◌∷◌, ◌++◌, Option, Some, None, map}
 use Rattle.std.specs.List.{cons_option}
@@ -23,7 +23,7 @@ module _ {W : Type 0} where
   find_listing n [] = None
   find_listing n (x ∷ xs) = if x.ticket == n then Some x.waker else find_listing n xs
 
-  -- the same, where there may be no ticket
+  -- the same, or None if there is no ticket
   abbrev pub own_listing : Option ℕ → List (Listing W) → Option (Option W)
   own_listing None xs = None
   own_listing (Some n) xs = find_listing n xs
@@ -33,7 +33,7 @@ module _ {W : Type 0} where
   take_out n [] = []
   take_out n (x ∷ xs) = if x.ticket == n then take_out n xs else x ∷ take_out n xs
 
-  -- the same, where there may be no ticket
+  -- the same, or the whole list if there is no ticket
   abbrev pub list_without : Option ℕ → List (Listing W) → List (Listing W)
   list_without None xs = xs
   list_without (Some n) xs = take_out n xs
@@ -43,12 +43,12 @@ module _ {W : Type 0} where
   first_waker [] = None
   first_waker (x ∷ xs) = option_or x.waker (first_waker xs)
 
-  -- a listing is called where it has a waker, or else the rest is
+  -- the listing x is woken if it has a waker, which it loses, and xs follows it; else rest does
   abbrev pub call_by : Listing W → Option W → List (Listing W) → List (Listing W) → List (Listing W)
   call_by x (Some w) xs rest = record { ticket = x.ticket; waker = None } ∷ xs
   call_by x None xs rest = x ∷ rest
 
-  -- the list once the first listing that has a waker was called
+  -- the list once the first listing that has a waker was woken
   abbrev pub call_first : List (Listing W) → List (Listing W)
   call_first [] = []
   call_first (x ∷ xs) = call_by x x.waker xs (call_first xs)
@@ -64,7 +64,7 @@ module _ {W : Type 0} where
   wakers_of [] = []
   wakers_of (x ∷ xs) = cons_option x.waker (wakers_of xs)
 
--- the least number from n on that is not in the list; n + f where the f numbers from n on all are
+-- the least number from n on that is not in the list; n + f if the f numbers from n on are all in it
 abbrev pub least_from : ℕ → ℕ → List ℕ → ℕ
 least_from zero n ns = n
 least_from (suc f) n ns = if member n ns then least_from f (suc n) ns else n
@@ -92,12 +92,12 @@ module _ {W : Type 0} where
   abbrev pub list_with : ℕ → W → List (Listing W) → List (Listing W)
   list_with n w xs = take_out n xs ++ record { ticket = n; waker = Some w } ∷ []
 
-  -- the listing was called
+  -- the listing was woken
   abbrev pub was_called : Option (Option W) → Bool
   was_called (Some None) = true
   was_called _ = false
 
-  -- who leaves passes its turn on where its listing was called and nobody holds, the value not being set
+  -- a task that leaves passes its turn on if its listing was woken, nobody holds and the value is not set
   abbrev pub passes_turn : Bool → ℕ → List (Listing W) → Bool
   passes_turn free n xs = if free then was_called (find_listing n xs) else false
 
@@ -105,7 +105,7 @@ module _ {W : Type 0} where
   abbrev pub next_waker : Bool → ℕ → List (Listing W) → Option W
   next_waker passes n xs = if passes then first_waker (take_out n xs) else None
 
-  -- the list that is left when the listing of who leaves is taken out
+  -- the list that is left when the listing of a task that leaves is taken out
   abbrev pub left_list : Bool → ℕ → List (Listing W) → List (Listing W)
   left_list passes n xs = if passes then call_first (take_out n xs) else take_out n xs
 

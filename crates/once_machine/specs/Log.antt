@@ -22,7 +22,7 @@ was_put q [] = false
 was_put q (Put n ∷ before) = if n == q then true else was_put q before
 was_put q (_ ∷ before) = was_put q before
 
--- a queue is put where none stands, with a new number; entered and taken out only while it stands there
+-- a queue is put, with a new number, if none stands at the door; it is entered and taken out only while it stands there
 abbrev pub IsSound : List QueueLine → Type 0
 IsSound [] = Unit {0}
 IsSound (Put q ∷ before) = (standing_queue before ≡ None) × (was_put q before ≡ false) × IsSound before
@@ -34,7 +34,7 @@ abbrev pub lines_of : List Part → List QueueLine
 lines_of [] = []
 lines_of (p ∷ before) = p.lines ++ lines_of before
 
--- somebody is handed out
+-- some waker is handed out
 abbrev pub is_some_waker : List ℕ → Bool
 is_some_waker [] = false
 is_some_waker _ = true
@@ -75,8 +75,8 @@ owned_lines true true door = take_lines door
 owned_lines _ _ door = []
 
 -- an input whose entries are these adds these lines.
--- A Go adds at most one, and one that enters the queue where it needs it.
--- An owner's call takes the queue out where it replaces the cell. All others add none
+-- A Go adds at most one, and one that enters the queue if its entries need it.
+-- An owner's call takes the queue out if it fits and replaces the cell. All others add none
 abbrev pub AddsLines : Kind → Input → List Entry → List Entry → List QueueLine → List QueueLine → Type 0
 AddsLines kind (Go t a granted) before entries log lines =
     IsAtMostOne lines × (need_queue kind entries before ≡ true → has_entered lines ≡ true)
@@ -96,7 +96,7 @@ WaitingStands kind parts =
     (t : ℕ) → status kind t (entries_of parts) ≡ Waiting
     → (q : ℕ) × (standing_queue (lines_of parts) ≡ Some q)
 
--- none stands there where the cell is set, no call is under way and no task waits
+-- none stands there if the cell is set, no poll or drop is under way and no task waits
 abbrev pub NoneKept : Kind → List Part → Type 0
 NoneKept kind parts =
     is_set (cell kind (entries_of parts)) ≡ true → ((t : ℕ) → is_under_way (status kind t (entries_of parts)) ≡ false)

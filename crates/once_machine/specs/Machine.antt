@@ -99,12 +99,12 @@ abbrev pub release_entry : Answer → ℕ → List ℕ → Entry
 release_entry (RanValue v) t X = Fill t v X
 release_entry _ t X = Free t X
 
--- who leaves passes its turn on to these wakers, if there are some
+-- a task that leaves passes its turn on to these wakers, if there are some
 abbrev pub pass_entries : ℕ → List ℕ → List Entry
 pass_entries t [] = []
 pass_entries t X = Pass t X ∷ []
 
--- how the call of t ends, where this value is set and this was kept
+-- how the poll or drop of t ends, if its init gave k and the value is v
 abbrev pub end_entry : Ending → ℕ → ℕ → Answer → Entry
 end_entry EndPending t v k = End t Pending
 end_entry EndValue t v k = End t (Value v)
@@ -113,23 +113,23 @@ end_entry EndMemory t v k = End t Memory
 end_entry EndFull t v k = End t Full
 end_entry EndDropped t v k = DropEnd t
 
--- the entry of a call that ends, with the value v set
+-- the entry of a poll or drop that ends, with the value v set
 abbrev pub progress_entries : Progress → ℕ → ℕ → Answer → List Entry
 progress_entries (Ended e) t v k = end_entry e t v k ∷ []
 progress_entries More t v k = []
 
--- a claim of t is recorded where there was one
+-- a claim of t is recorded if there was one
 abbrev pub claim_entries : Bool → ℕ → List Entry
 claim_entries true t = Claim t ∷ []
 claim_entries false t = []
 
--- the fast release hands nobody out
+-- the fast release hands no waker out
 abbrev pub freed_entries : Bool → ℕ → Answer → List Entry
 freed_entries true t k = release_entry k t [] ∷ []
 freed_entries false t k = []
 
 -- the outcome of a step of t: what it leaves, what its init gave, what it did, and what the table of places says of
--- the call
+-- the poll or drop
 abbrev pub outcome_of : SharedState → ℕ → Answer → List Entry → Next ℕ ℕ → Outcome
 outcome_of c t k did n = record {
   shared = c;
@@ -143,7 +143,7 @@ abbrev pub quick_shared : Bool → SharedState → SharedState
 quick_shared true c = record c { quick = true }
 quick_shared false c = c
 
--- what a put of the queue leaves, by what stood at the door: one is put where none stands
+-- what a put of the queue leaves, by what stood at the door: one is put if none stood
 abbrev pub put_shared : Option ℕ → Option ℕ → SharedState → SharedState
 put_shared (Some q) None c = record c { door = Some q; head = false; listings = []; queues = suc c.queues }
 put_shared _ _ c = c
@@ -196,7 +196,7 @@ abbrev pub release_flags : Bool → Bool → SharedState → SharedState
 release_flags true r c = record c { quick = false; ready = r }
 release_flags false r c = record c { head = false; ready = r }
 
--- a release with the value lets all listings leave; one without calls the first that was not called
+-- a release with the value lets all listings leave; one without wakes the first that was not woken
 abbrev pub release_list : Bool → List (Listing ℕ) → List (Listing ℕ)
 release_list true xs = []
 release_list false xs = call_first xs
@@ -206,7 +206,7 @@ abbrev pub release_wakers : Bool → List (Listing ℕ) → List ℕ
 release_wakers true xs = all_out xs []
 release_wakers false xs = option_to_list (first_waker xs)
 
--- who leaves with this ticket passes its turn on
+-- a task that leaves with this ticket passes its turn on
 abbrev pub is_passing : SharedState → ℕ → Bool
 is_passing c n = passes_turn (is_free (sees_of c)) n c.listings
 
@@ -215,7 +215,7 @@ abbrev pub release_shared : SectionAnswer ℕ → Bool → SharedState → Share
 release_shared Gone fills c = c
 release_shared _ fills c = record (release_flags c.quick fills c) { listings = release_list fills c.listings }
 
--- what one who leaves with this ticket leaves, by its answer
+-- what is left after a task leaves with this ticket, by its answer
 abbrev pub leave_shared : SectionAnswer ℕ → ℕ → SharedState → SharedState
 leave_shared Gone n c = c
 leave_shared _ n c = record c { listings = left_list (is_passing c n) n c.listings }
@@ -235,8 +235,8 @@ pub record StepInput : Type 0 where
   pub init : Answer  -- what its init answers
   pub granted : Bool  -- whether memory is given
 
--- what a release or one who leaves is answered of the queue q: `Left None` stands for both where the queue is at the
--- door. Whom they hand out stands apart, in `hands`
+-- what a release, or a task that leaves, is answered of the queue q: `Left None` stands for both if the queue is at the
+-- door. Which wakers they hand out stands apart, in `hands`
 abbrev pub out_answer : ℕ → SharedState → SectionAnswer ℕ
 out_answer q c = if is_at_door q c.door then Left None else Gone
 
@@ -280,7 +280,7 @@ left_by (Polls a) k c = run_shared c
 left_by PutValue k c = record c { value = put_value k c.value }
 left_by _ k c = c
 
--- whom it hands out
+-- the wakers that it hands out
 abbrev pub hands : Told ℕ ℕ → SharedState → List ℕ
 hands (Was q (ReleaseOp fills) a o) c = release_wakers fills c.listings
 hands (Was q (LeaveOp n) a o) c = option_to_list (next_waker (is_passing c n) n c.listings)
@@ -291,7 +291,7 @@ abbrev pub unless_gone : SectionAnswer ℕ → List Entry → List Entry
 unless_gone Gone es = []
 unless_gone _ es = es
 
--- what is recorded of the task t, whose init gave k and answers given, where X are handed out
+-- what is recorded of the task t, whose init gave k and answers given, if the wakers X are handed out
 abbrev pub records : Told ℕ ℕ → Answer → ℕ → Answer → List ℕ → List Entry
 records (TriedQuick won) given t k X = claim_entries won t
 records (TriedFast fills won) given t k X = freed_entries won t k
@@ -316,7 +316,7 @@ place_step lazy limit c t w k a granted p =
     outcome_of (left_by e k c) t (keeps e given k) (records e given t k (hands e c))
     (after (if granted then Some w else None) p e)
 
--- one step of a call that is under way; nothing else makes one
+-- one step of a poll or drop that is under way; nothing else makes one
 abbrev pub step_at : Bool → ℕ → SharedState → ℕ → ℕ → Answer → Answer → Bool → Step ℕ ℕ → Outcome
 step_at lazy limit c t w k a granted (UnderWay p) = place_step lazy limit c t w k a granted p
 step_at lazy limit c t w k a granted s = record { shared = c; step = s; kept = k; entries = [] }
@@ -325,7 +325,7 @@ step_at lazy limit c t w k a granted s = record { shared = c; step = s; kept = k
 abbrev pub advance : Bool → ℕ → SharedState → ℕ → Task → Answer → Bool → Outcome
 advance lazy limit c t x a granted = step_at lazy limit c t x.waker x.kept a granted x.step
 
--- granted, door, queues made: a queue is put where none stands
+-- what a put logs after n queues were made: the next one, if memory is given and none stands at the door
 abbrev pub put_lines : Bool → Option ℕ → ℕ → List QueueLine
 put_lines true None n = PutLine (suc n) ∷ []
 put_lines _ _ n = []
@@ -341,12 +341,12 @@ call_lines granted c _ = []
 abbrev pub place_lines : Bool → SharedState → Place ℕ ℕ → List QueueLine
 place_lines granted c p = call_lines granted c (call_at p)
 
--- what one step of a call logs
+-- what one step of a poll or drop logs
 abbrev pub step_lines : Bool → SharedState → Step ℕ ℕ → List QueueLine
 step_lines granted c (UnderWay p) = place_lines granted c p
 step_lines granted c s = []
 
--- what the beginning of a drop records, by the step that it leads to: its end too, where there is no step to do
+-- what the beginning of a drop records, by the step that it leads to: its end too, if there is no step to do
 abbrev pub drop_entries : ℕ → Step ℕ ℕ → List Entry
 drop_entries t Finished = DropEnd t ∷ DropBegin t ∷ []
 drop_entries t _ = DropBegin t ∷ []
@@ -363,7 +363,7 @@ pub record World : Type 0 where
 abbrev pub put_task : ℕ → Task → (ℕ → Option Task) → ℕ → Option Task
 put_task t y tasks u = if t == u then Some y else tasks u
 
--- how many tasks are not finished, where one of n comes to this step
+-- how many tasks are not finished after one of n such tasks comes to this step
 abbrev pub unfinished_after : Step ℕ ℕ → ℕ → ℕ
 unfinished_after Finished n = n - 1
 unfinished_after _ n = n
@@ -377,7 +377,7 @@ abbrev pub step_of : Option Task → Step ℕ ℕ
 step_of None = Finished
 step_of (Some x) = x.step
 
--- a new task where none has the number t
+-- a new task, if none has the number t
 abbrev pub make_world : World → ℕ → Option Task → World
 make_world w t None = record w {
   tasks = put_task t fresh_task w.tasks;
@@ -394,7 +394,7 @@ poll_world_by true w t k x = record w {
 }
 poll_world_by false w t k x = w
 
--- a poll of t, which does nothing where there is no such task
+-- a poll of t, which does nothing if there is no such task
 abbrev pub poll_world : World → ℕ → ℕ → Option Task → World
 poll_world w t k None = w
 poll_world w t k (Some x) = poll_world_by (is_resting x.step) w t k x
@@ -408,7 +408,7 @@ drop_world_by true w t x = record w {
 }
 drop_world_by false w t x = w
 
--- a drop of t, which does nothing where there is no such task
+-- a drop of t, which does nothing if there is no such task
 abbrev pub drop_world : World → ℕ → Option Task → World
 drop_world w t None = w
 drop_world w t (Some x) = drop_world_by (is_resting x.step) w t x
@@ -423,18 +423,18 @@ step_world w t x o lines = record {
   log = lines ++ w.log;
 }
 
--- a step of t, by whether a call is under way
+-- a step of t, by whether a poll or drop is under way
 abbrev pub go_world_by : Bool → Bool → ℕ → World → ℕ → Answer → Bool → Task → World
 go_world_by true lazy limit w t a granted x =
     step_world w t x (advance lazy limit w.shared t x a granted) (step_lines granted w.shared x.step)
 go_world_by false lazy limit w t a granted x = w
 
--- a step of t, which does nothing where there is no such task
+-- a step of t, which does nothing if there is no such task
 abbrev pub go_world : Bool → ℕ → World → ℕ → Answer → Bool → Option Task → World
 go_world lazy limit w t a granted None = w
 go_world lazy limit w t a granted (Some x) = go_world_by (in_call x.step) lazy limit w t a granted x
 
--- no call of a task is under way, if there is a task
+-- no poll or drop of a task is under way, if there is a task
 abbrev pub IsIdle : Option Task → Type 0
 IsIdle None = Unit {0}
 IsIdle (Some x) = in_call x.step ≡ false
@@ -468,7 +468,7 @@ reset_shared c v l = record (take_shared c) {
   answers = l;
 }
 
--- another value where one is set
+-- another value, if one is set
 abbrev pub write_shared : Bool → ℕ → SharedState → SharedState
 write_shared true v c = record c { value = v }
 write_shared false v c = c

@@ -52,8 +52,8 @@ abbrev pub IsCrowded : Kind → ℕ → ℕ → List Entry → Type 0
 IsCrowded kind limit t history = limit ≤ crowd kind t history
 
 -- memory may be refused, by what t was at its Begin:
--- to a fresh task where the cell was not set then and another task acted since,
--- to a waiting one where another task held since
+-- to a fresh task if the cell was not set then and another task acted since,
+-- to a waiting one if another task held since
 abbrev pub MemoryFrom : Kind → Status → ℕ → List Entry → Type 0
 MemoryFrom kind Fresh t history = ((last_call kind t history).set_then ≡ false) × Since t (OtherActs kind t) history
 MemoryFrom kind Waiting t history = Since t (OtherHolds kind t) history
@@ -64,7 +64,7 @@ abbrev pub MayWantMemory : Kind → ℕ → List Entry → Type 0
 MayWantMemory kind t history =
     ((last_call kind t history).claimed ≡ false) × MemoryFrom kind (last_call kind t history).began t history
 
--- the first poll of a task may find the place full, where its crowd had limit tasks since and the cell is not set
+-- the first poll of a task may find the place full if its crowd had limit tasks since, and the cell is not set
 abbrev pub MayFindFull : Kind → ℕ → ℕ → List Entry → Type 0
 MayFindFull kind limit t history =
     ((last_call kind t history).began ≡ Fresh) × ((last_call kind t history).claimed ≡ false)

@@ -1,4 +1,4 @@
--- Who holds and who is listed under the cell's lock, and for how many there is memory.
+-- Whether a task holds under the cell's lock, which listings stand there, and for how many there is memory.
 use Rattle.std.specs.Prelude.{ℕ, List, Option}
 use Rattle.once_machine.specs.declared.waiters.Listing.{Listing}
 use Rattle.once_machine.specs.declared.waiters.Lists.{Lists}

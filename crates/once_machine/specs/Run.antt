@@ -10,7 +10,7 @@ use Rattle.once_machine.specs.Tasks.{status, last_call, all_gone}
 use Rattle.once_machine.specs.Wakers.{IsDue, IsOpen, HandsOut, CallsOne}
 use Rattle.once_machine.specs.Refusals.{OtherHolds, MayWantMemory, MayFindFull}
 
--- a call may begin where its task is fresh, waiting or holding
+-- a poll or a drop may begin if its task is fresh, waiting or holding
 abbrev pub MayBegin : Status → Type 0
 MayBegin Fresh = Unit {0}
 MayBegin Waiting = Unit {0}
@@ -82,6 +82,6 @@ abbrev pub AtEvery : (List Entry → Type 0) → List Entry → Type 0
 AtEvery P [] = P []
 AtEvery P (e ∷ before) = P (e ∷ before) × AtEvery P before
 
--- nobody who waits is forgotten: where the cell is set, no waker is due
+-- no waiting task is forgotten: if the cell is set, no waker is due
 abbrev pub NobodyForgotten : Kind → List Entry → Type 0
 NobodyForgotten kind history = is_set (cell kind history) ≡ true → (w : ℕ) → IsDue kind w history → ⊥

@@ -19,19 +19,19 @@ module _ {W : Type 0} (other : W → W → Type 0) where
   abbrev pub IsOther : W → List W → Type 0
   IsOther waker seen = All (λ w. other w waker) seen
 
-  -- the wakers of two listings, where both have one, were told to be other
+  -- the wakers of two listings, if both have one, were told to be other
   abbrev pub AreApart : Listing W → Listing W → Type 0
   AreApart x y = IfSome y.waker (λ w. IfSome x.waker (λ v. other v w))
 
 module _ {W : Type 0} (same other : W → W → Type 0) where
-  -- a Look where some task holds, by the current waker and the own listing: whether that has the same waker
+  -- a Look while some task holds, by the current waker and the own listing: whether that has the same waker
   abbrev pub DidLook : Option W → Option (Option W) → Answer W → Type 0
   DidLook (Some w) (Some (Some v)) answer =
       ((answer ≡ Answer.Listed) × same v w) ⊎ ((answer ≡ Answer.Held) × other v w)
   DidLook _ _ answer = answer ≡ Answer.Held
 
 module _ {W : Type 0} where
-  -- a List where some task holds: the own listing is taken out, and one with the waker goes to the end; or there
+  -- a List while some task holds: the own listing is taken out, and one with the waker goes to the end; or there
   -- was none, and no memory for one
   abbrev pub DidList : Option ℕ → W → List (Listing W) → Answer W → Option ℕ → Option W → List (Listing W) → Type 0
   DidList ticket w xs answer ticket' waker' xs' =
@@ -46,7 +46,7 @@ module _ {W N : Type 0} (renewed : N → W → N → W → Type 0) where
   Renewed n xs s xs' t = (v w : W) × (find_listing n xs ≡ Some (Some v)) × renewed s v t w × (xs' ≡ with_waker n w xs)
 
 module _ {W : Type 0} (same other : W → W → Type 0) where
-  -- the waker that leaves a listing, by those of the listings before: none where it was called, or where an earlier
+  -- the waker that leaves a listing, by those of the listings before: none if it was woken, or if an earlier
   -- waker is the same
   abbrev pub HandsBy : List W → Option W → Option W → Type 0
   HandsBy seen None out = out ≡ None
@@ -59,7 +59,7 @@ module _ {W : Type 0} (same other : W → W → Type 0) where
       (y.ticket ≡ x.ticket) × HandsBy seen x.waker y.waker × HandsAll (cons_option x.waker seen) xs ys
   HandsAll seen _ _ = ⊥
 
-  -- a release, by whether the value is set: it calls the first who was not called, or all leave
+  -- a release, by whether the value is set: it wakes the first listing that was not woken, or all leave
   abbrev pub Releases : Bool → List (Listing W) → Out W → List (Listing W) → Type 0
   Releases false xs out xs' = (out ≡ Out.One (first_waker xs)) × (xs' ≡ call_first xs)
   Releases true xs out xs' = (X : Vec (Listing W) Global) × (out ≡ Out.All X) × ∥ HandsAll [] xs X.items ∥₁ × (xs' ≡ [])

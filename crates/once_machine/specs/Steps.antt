@@ -80,7 +80,7 @@ module _ {W Q : Type 0} where
   step_of_poll (Resting r) = UnderWay (place_of_poll r)
   step_of_poll s = s
 
-  -- where a holder gives the right back: by the fast release where it claimed quickly, else under the lock of its queue
+  -- where a holder gives the right back: by the fast release if it claimed quickly, else under the lock of its queue
   abbrev pub release_place : Option Q → Ending → Place W Q
   release_place None e = AtFast e
   release_place (Some q) e = AtRelease q e
@@ -90,7 +90,7 @@ module _ {W Q : Type 0} where
   leave_place q None e = AtCountOut e
   leave_place q (Some n) e = AtLeave q n e
 
-  -- a drop goes on from the place at rest; it is over where the task was never polled
+  -- a drop goes on from the place at rest; it is over if the task was never polled
   abbrev pub step_of_drop_at : Rest Q → Step W Q
   step_of_drop_at RestStart = Finished
   step_of_drop_at (RestWait q k) = UnderWay (leave_place q k EndDropped)
@@ -107,13 +107,13 @@ module _ {S : Type 0} (close : S → S → Type 0) where
   MayClose true s s' = close s s'
   MayClose false s s' = s' ≡ s
 
--- what the section of a release, or of one who leaves, hands out; any other answer hands nothing out
+-- what the section of a release, or of a waiter that leaves, hands out; any other answer hands nothing out
 abbrev pub out_of : {W : Type 0} → SectionAnswer W → Option (Out W)
 out_of (Released out) = Some out
 out_of (Left w) = Some (One w)
 out_of _ = None
 
--- who was handed out is called; where nothing was, nothing happens
+-- the wakers that were handed out are woken; if nothing was handed out, nothing happens
 abbrev pub Wakes : {S W : Type 0} → (S → Out W → S → Type 0) → Option (Out W) → S → S → Type 0
 Wakes wake (Some out) s s' = wake s out s'
 Wakes wake None s s' = s' ≡ s

@@ -1,4 +1,4 @@
--- The table of places: the call that each place makes, what that call may tell, and how the task's own call goes on.
+-- The table of places: the call that each place makes, what that call may tell, and how the poll or drop then goes on.
 use Rattle.std.specs.Prelude.{◌≡◌, ℕ, Bool, true, false, Option, Some, None}
 use Rattle.once_machine.specs.declared.parts.Counted.{Counted}
 use Rattle.once_machine.specs.declared.parts.Counted.TheVariants.{In, Full, SeenReady}
@@ -115,7 +115,7 @@ pub record Next (W Q : Type 0) : Type 0 where
   pub step : Step W Q
 
 module _ {W Q : Type 0} where
-  -- the call goes on at the place
+  -- the poll or drop goes on at the place
   abbrev pub next_at : Place W Q → Next W Q
   next_at p = record { closes = false; progress = More; step = UnderWay p }
 
@@ -123,7 +123,7 @@ module _ {W Q : Type 0} where
   abbrev pub closing_at : Place W Q → Next W Q
   closing_at p = record { closes = true; progress = More; step = UnderWay p }
 
-  -- the call ends, and the task is finished
+  -- the poll or drop ends, and the task is finished
   abbrev pub next_end : Ending → Next W Q
   next_end e = record { closes = false; progress = Ended e; step = Finished }
 
@@ -135,7 +135,7 @@ module _ {W Q : Type 0} where
   abbrev pub next_rest : Rest Q → Next W Q
   next_rest r = record { closes = false; progress = Ended EndPending; step = Resting r }
 
-  -- how many steps a call at this place may still take
+  -- how many steps a poll or drop at this place may still take
   abbrev pub left_at : Place W Q → ℕ
   left_at AtStart = 16
   left_at AtTryQuick = 15
@@ -155,7 +155,7 @@ module _ {W Q : Type 0} where
   left_at (AtCountOut e) = 2
   left_at (AtDoorTake e) = 1
 
-  -- how many steps the call may still take; 0 where none is under way
+  -- how many steps the poll or drop may still take; 0 if none is under way
   abbrev pub left_of : Step W Q → ℕ
   left_of (UnderWay p) = left_at p
   left_of _ = 0
@@ -196,7 +196,7 @@ module _ {W Q : Type 0} where
   after_door_get (Some q) = next_at (AtCountIn q)
   after_door_get None = next_at AtDoorPut
 
-  -- after a queue was put or found; None where memory was refused
+  -- after a queue was put or found; None if memory was refused
   abbrev pub after_door_put : Option Q → Next W Q
   after_door_put (Some q) = next_at (AtCountIn q)
   after_door_put None = closing_end EndMemory
@@ -213,12 +213,12 @@ module _ {W Q : Type 0} where
   after_load true q k = closing_at (AtCountOut EndValue)
   after_load false q k = next_at (AtLook q k)
 
-  -- after the copy of the waker; None where memory was refused
+  -- after the copy of the waker; None if memory was refused
   abbrev pub after_copy : Option W → Q → Option ℕ → Next W Q
   after_copy (Some w) q k = next_at (AtList q k w)
   after_copy None q k = closing_at (leave_place q k EndMemory)
 
-  -- after a look with this ticket, where the waker that was copied is this
+  -- after a look with this ticket; w is the copy of the waker, if one was made
   abbrev pub after_look : SectionAnswer W → Option W → Q → Option ℕ → Next W Q
   after_look Ready w q k = closing_at (AtCountOut EndValue)
   after_look Claimed w q k = next_at (AtRun (Some q))
@@ -244,7 +244,7 @@ module _ {W Q : Type 0} where
   after_fast true false e = next_end e
   after_fast false fills e = next_at (AtAddOne e)
 
-  -- after a holder looked for the queue of those who are counted
+  -- after a holder looked for the queue of the counted tasks
   abbrev pub after_door_again : Option Q → Ending → Next W Q
   after_door_again (Some q) e = next_at (AtRelease q e)
   after_door_again None e = next_at (AtCountOut e)
@@ -324,7 +324,7 @@ module _ {P S W Q : Type 0} (did : P → Told W Q → P → Type 0) (side : Side
       × Looked (wants_copy (LookOp k) a) (AtLook q k) (Was q (LookOp k) a o) n s r t p' s'
   Line at p s r t p' s' = Tells (call_at at) (λ e. did p e p' × GoesOn (after None at e) e s s' r t)
 
-  -- one step of a call under way is its line of the table
+  -- one step of a poll or drop under way is its line of the table
   abbrev pub Advances : Step W Q → P → S → Progress → Step W Q → P → S → Type 0
   Advances (UnderWay at) p s r t p' s' = Line at p s r t p' s'
   Advances _ p s r t p' s' = ⊥

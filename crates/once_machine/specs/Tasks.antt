@@ -1,4 +1,4 @@
--- What a history tells of one task: its status, and its last call.
+-- What a history tells of one task: its status, and its last call, which is a poll or a drop.
 use Rattle.std.specs.Prelude.{ℕ, Bool, true, false, if◌then◌else◌, ◌==◌, List, [], ◌∷◌, Option, Some, None}
 use Rattle.once_machine.specs.Record.{Answer, Kind, Pending, is_of, made_in}
 use Rattle.once_machine.specs.Record.{Entry, Made, Begin, Claim, Ran, Free, Pass, End, DropBegin, DropEnd}
@@ -14,12 +14,12 @@ pub data Status : Type 0 where
   Holding : Status  -- its last poll ended Pending while it held itself
   Gone : Status  -- a poll of it ended otherwise, or it was dropped
 
--- after a poll of t that ended Pending: who held decides
+-- the status after a poll of t that ended Pending: the task that held decides
 abbrev pub pending_status : ℕ → Cell → Status
 pending_status t (Held u) = if u == t then Holding else Waiting
 pending_status t _ = Gone
 
--- the status after an entry of the task, where the cell was c
+-- the status after an entry of the task, if the cell was c and the status s
 abbrev pub status_after : Entry → Cell → Status → Status
 status_after (Made t) c s = Fresh
 status_after (Begin t w) c s = Polling
@@ -35,7 +35,7 @@ status kind t [] = Unmade
 status kind t (e ∷ before) =
     if is_of t e then status_after e (cell kind before) (status kind t before) else status kind t before
 
--- a call is under way
+-- a call is under way: a poll or a drop
 abbrev pub is_under_way : Status → Bool
 is_under_way Polling = true
 is_under_way Dropping = true
@@ -55,7 +55,7 @@ are_gone kind (t ∷ ts) history = if is_gone (status kind t history) then are_g
 abbrev pub all_gone : Kind → List Entry → Bool
 all_gone kind history = are_gone kind (made_in history) history
 
--- a task's last call
+-- a task's last call: a poll or a drop
 pub record LastCall : Type 0 where
   pub waker : ℕ  -- the waker of the task's last poll
   pub listed : ℕ  -- the waker of its last poll that ended Pending
@@ -66,7 +66,7 @@ pub record LastCall : Type 0 where
   pub passed : Bool  -- whether it passed its turn on since then
   pub ran : Option Answer  -- what the init answered since then, if it was polled
 
--- a call that begins with the waker w, where the cell was c and the task s
+-- a call that begins with the waker w, if the cell was c, the status of the task s and its last call p
 abbrev pub begins : ℕ → Cell → Status → LastCall → LastCall
 begins w c s p = record {
   waker = w;
@@ -79,7 +79,7 @@ begins w c s p = record {
   ran = None;
 }
 
--- the last call after an entry of the task, where the cell was c and the task s
+-- the last call after an entry of the task, if the cell was c, the status of the task s and its last call p
 abbrev pub last_call_after : Entry → Cell → Status → LastCall → LastCall
 last_call_after (Begin t w) c s p = begins w c s p
 last_call_after (DropBegin t) c s p = begins p.waker c s p

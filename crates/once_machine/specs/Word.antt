@@ -35,7 +35,7 @@ sees_by true _ = Set
 sees_by false false = Free
 sees_by false true = Taken
 
--- what the word and the flag beside the list say of the right: some task holds where the quick flag or that one stands
+-- what the word and the flag beside the list say of the right: some task holds if the quick flag or that one stands
 abbrev pub sees : Flags → Bool → Sees
 sees f head = sees_by f.ready (f.quick || head)
 

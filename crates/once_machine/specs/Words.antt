@@ -31,7 +31,7 @@ word_after AddOne n = (n + 1) % 2 ^ 64
 word_after CountOut n = (n + (2 ^ 64 - 1)) % 2 ^ 64
 word_after _ n = n
 
--- what is known of the number: who counts out was counted
+-- what is known of the number: a task that counts out was counted
 abbrev pub IsFound : Call ℕ ℕ → ℕ → Type 0
 IsFound CountOut n = 0 < n
 IsFound _ n = Unit {0}

@@ -1,4 +1,4 @@
--- Small facts on a cell: who holds it, and which value is set.
+-- Small facts on a cell: which task holds it, and which value is set.
 use Rattle.std.proofs.Common.{◌≡◌, ◌≢◌, ℕ, Bool, true, false, Option, Some, None, refl, arith}
 use Rattle.std.proofs.lemmas.Bool.{false≢true}
 use Rattle.std.proofs.lemmas.Bool.Decides.{nat_tests}
@@ -10,7 +10,7 @@ abbrev pub is_held : Cell → Bool
 is_held (Held t) = true
 is_held _ = false
 
--- who holds a cell that is held
+-- the holder of a cell that is held
 pub holder_of : (c : Cell) → is_held c ≡ true → (u : ℕ) × (c ≡ Held u)
 holder_of (Held u) e = (u, refl)
 holder_of _ e = absurd (false≢true e)

@@ -12,7 +12,7 @@ use Rattle.once_machine.specs.Wakers.{CallsOne, HandsOut, IsDue, IsOpen, times_h
 use Rattle.once_machine.proofs.Listing.Listings.{asks, asks_call, first_asks}
 use Rattle.once_machine.proofs.Listing.AllOut.{all_due, all_once, all_times, member_times}
 
--- in an empty cell for which some task waits some listing was called
+-- in an empty cell for which some task waits, some listing was woken
 abbrev pub CalledAt : Kind → List (Listing ℕ) → List Entry → Type 0
 CalledAt K xs h = cell K h ≡ Empty → (u : ℕ) → status K u h ≡ Waiting → (n : ℕ) × (find_listing n xs ≡ Some None)
 
@@ -42,7 +42,7 @@ waits_before : (K : Kind) (u : ℕ) (e : Entry) (h : List Entry)
     → status K u h ≡ Waiting
 waits_before K u e h not_waiting s = grind arith
 
--- who waits after an entry that makes nobody wait did so before
+-- a task that waits after an entry that makes no task wait did so before
 pub waited : (K : Kind) (e : Entry) (h : List Entry)
     → ((t : ℕ) → is_of t e ≡ true → status_after e (cell K h) (status K t h) ≢ Waiting) → (u : ℕ)
     → status K u (e ∷ h) ≡ Waiting → status K u h ≡ Waiting
@@ -55,7 +55,7 @@ pub quiet : {K : Kind} {xs : List (Listing ℕ)} {e : Entry} {h : List Entry} �
     → (cell_after e (cell K h) ≡ Empty → cell K h ≡ Empty) → QueueFits K xs (e ∷ h)
 quiet {K = K} {e = e} {h = h} q none stays shut not_waiting empty = entry_fits q stays (λ w. rw (none, shut w) (omega arith)) (λ c u s. q.called (empty c) u (waited K e h not_waiting u s))
 
--- where nobody waits
+-- if nobody waits, no listing need be woken
 pub nobody_called : (K : Kind) (xs : List (Listing ℕ)) (h : List Entry) → ((u : ℕ) → status K u h ≢ Waiting) → CalledAt K xs h
 nobody_called K xs h n c u s = absurd (n u s)
 
@@ -89,7 +89,7 @@ calls_one K xs h q due = record {
   open_alone = λ w. open_by K w (option_to_list (first_waker xs)) xs h q (λ k. let a = asks_call k xs in omega arith);
 }
 
--- where nobody waits nothing need be handed out
+-- if nobody waits, nothing need be handed out
 pub hands_none : (K : Kind) (h : List Entry) → ((u : ℕ) → status K u h ≢ Waiting) → HandsOut K [] h
 hands_none K h n = record { once = refl; due = λ w d. absurd (n d.0 d.1); open_alone = λ w m. absurd (false≢true m) }
 

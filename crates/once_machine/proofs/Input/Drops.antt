@@ -1,4 +1,4 @@
--- The drop of a task that was never polled: whoever was called stays called between its two entries.
+-- The drop of a task that was never polled: a task that was woken still counts as woken between its two entries.
 use Rattle.std.proofs.Common.{◌≡◌, ◌≢◌, ℕ, ⊎_elim, inl, inr, List, [], ◌∷◌, refl, sym, ap, ◌∙◌, subst}
 use Rattle.std.proofs.lemmas.Bool.{false≢true}
 use Rattle.once_machine.specs.Record.{DropBegin, Entry, Kind}
@@ -28,7 +28,7 @@ turn_kept K v h h' k t = record {
   unpassed = ap (λ (x : LastCall). x.passed) k.call_is ∙ t.unpassed;
 }
 
--- a called task stays called through an entry of another
+-- a woken task still counts as woken after an entry of another
 called_kept : (K : Kind) (v : ℕ) (h h' : List Entry) → Keeps K v h h' → IsCalled K v h → IsCalled K v h'
 called_kept K v h h' k c = (
   ⊎_elim (λ s. inl (k.status_is ∙ s)) (λ t. inr (turn_kept K v h h' k t)) c.0,

@@ -1,4 +1,4 @@
--- Every made task is gone exactly where no task is unfinished.
+-- Every made task is gone exactly if no task is unfinished.
 use Rattle.std.proofs.Common.{◌≡◌, ℕ, Bool, true, false, ◌==◌, ◌⊎◌, inl, inr, ⊎_elim, List, [], ◌∷◌, Option, Some, None, refl, sym, ap, ◌∙◌, subst, arith}
 use Rattle.std.proofs.lemmas.Grind.{common_steps}
 use Rattle.std.specs.Prelude.{not}
@@ -25,7 +25,7 @@ finished _ e = absurd (true≢false e)
 alive_made : (K : Kind) (limit t : ℕ) (w : World) → Fits K limit w → is_alive (w.tasks t) ≡ true → member t (made_in w.history) ≡ true
 alive_made K limit t w f a = ⊎_elim (λ e. e) (λ e. absurd (false≢true (ap is_alive (sym (f.made_all t e)) ∙ a))) (cases_Bool (member t (made_in w.history)))
 
--- where none is unfinished, no task is alive
+-- if none is unfinished, no task is alive
 pub none_alive : (K : Kind) (limit t : ℕ) (w : World) → Fits K limit w → w.unfinished ≡ 0 → is_alive (w.tasks t) ≡ false
 none_alive K limit t w f z = false_from_ne_true (is_alive (w.tasks t)) (λ a.
     let n = count_positive t (made_in w.history) (λ u. is_alive (w.tasks u)) (alive_made K limit t w f a) a in
@@ -62,11 +62,11 @@ made_gone : (K : Kind) (limit t : ℕ) (w : World) (o : Option Task) → Fits K 
 made_gone K limit t w None f is a d m = absurd (false≢true (sym (f.made_only t is) ∙ m))
 made_gone K limit t w (Some x) f is a d m = let r = over_at K limit t w.shared w.history x a d in ap is_gone r.status_is
 
--- where none is unfinished, every made task is gone
+-- if none is unfinished, every made task is gone
 pub done_gone : (K : Kind) (limit : ℕ) (w : World) → Fits K limit w → w.unfinished ≡ 0 → all_gone K w.history ≡ true
 done_gone K limit w f z = gone_list K (made_in w.history) w.history (λ t m. made_gone K limit t w (w.tasks t) f refl (f.tasks t) (none_alive K limit t w f z) m)
 
--- a made task is gone where all are
+-- a made task is gone if all are
 pub made_there : (K : Kind) (t : ℕ) (ns : List ℕ) (h : List Entry) → are_gone K ns h ≡ true → member t ns ≡ true → is_gone (status K t h) ≡ true
 made_there K t [] h a m = absurd (false≢true m)
 made_there K t (x ∷ xs) h a m =
@@ -74,16 +74,16 @@ made_there K t (x ∷ xs) h a m =
     let there : are_gone K xs h ≡ true = grind arith in
     ⊎_elim (λ e. subst (λ v. is_gone (status K v h) ≡ true) (eqb-true x t e) here) (λ e. made_there K t xs h there (rw e at m)) (cases_Bool (x == t))
 
--- who acts is not gone
+-- a task that acts is not gone
 acts_not_gone : (s : Status) → is_under_way s ≡ true → is_gone s ≡ true → ⊥
 acts_not_gone s a g = grind (arith, common_steps)
 
--- who rests is not gone
+-- a task that rests is not gone
 rest_not_gone : (K : Kind) (limit t : ℕ) (c : SharedState) (h : List Entry) (r : Rest ℕ) → AtRest K limit t c h r → is_gone (status K t h) ≡ true → ⊥
 rest_not_gone K limit t c h RestStart a g = false≢true (sym (ap is_gone a.status_is) ∙ g)
 rest_not_gone K limit t c h _ a g = false≢true (sym (ap is_gone a.0.status_is) ∙ g)
 
--- who is gone is finished
+-- a task that is gone is finished
 gone_finished : (K : Kind) (limit t : ℕ) (c : SharedState) (h : List Entry) (s : Step ℕ ℕ) → AtStep K limit t c h s
     → is_gone (status K t h) ≡ true → not (is_finished s) ≡ false
 gone_finished K limit t c h (Resting r) a g = absurd (rest_not_gone K limit t c h r a.0 g)
@@ -96,7 +96,7 @@ gone_dead : (K : Kind) (limit t : ℕ) (w : World) (o : Option Task) → StandsF
 gone_dead K limit t w None a g = refl
 gone_dead K limit t w (Some x) a g = gone_finished K limit t w.shared w.history x.step a.step g
 
--- where every made task is gone, none is unfinished
+-- if every made task is gone, none is unfinished
 gone_done : (K : Kind) (limit : ℕ) (w : World) → Fits K limit w → all_gone K w.history ≡ true → w.unfinished ≡ 0
 gone_done K limit w f g =
     let dead : (t : ℕ) → is_alive (w.tasks t) ≡ false = λ t. false_from_ne_true (is_alive (w.tasks t)) (λ a.
@@ -107,6 +107,6 @@ gone_done K limit w f g =
 gone_by : (g : Bool) (n : ℕ) → (g ≡ true → n ≡ 0) → (n ≡ 0 → g ≡ true) → g ≡ (n == 0)
 gone_by g n a b = grind (arith, nat_tests)
 
--- every made task is gone exactly where none is unfinished
+-- every made task is gone exactly if none is unfinished
 pub gone_is : (K : Kind) (limit : ℕ) (w : World) → Fits K limit w → all_gone K w.history ≡ (w.unfinished == 0)
 gone_is K limit w f = gone_by (all_gone K w.history) w.unfinished (gone_done K limit w f) (done_gone K limit w f)

@@ -1,4 +1,4 @@
--- The record of every list of inputs is a run, and at every moment somebody was called if somebody had to be.
+-- The record of every list of inputs is a run, and at every moment somebody was woken if somebody had to be.
 use Rattle.std.proofs.Common.{◌≡◌, ◌<◌, ℕ, Bool, true, false, ◌==◌, List, [], ◌∷◌, Option, Some, None, refl, sym, arith}
 use Rattle.std.proofs.lemmas.Bool.{false≢true}
 use Rattle.once_machine.specs.Record.{Answer, Kind, Lazy, LazyWith, Once, OnceWith, has_call, is_lazy}
@@ -162,6 +162,6 @@ world_fits K limit (i ∷ before) some = after_fits K limit (world_of K limit be
 pub every_run : (kind : Kind) (limit : ℕ) (inputs : List Input) → 0 < limit → IsRun kind limit (history_of kind limit inputs)
 every_run kind limit inputs some = (world_fits kind limit inputs some).run
 
--- where the cell is empty and some task waits, some task was called: at every moment
+-- at every moment, if the cell is empty and some task waits, some task was woken
 pub one_is_called : (kind : Kind) (limit : ℕ) (inputs : List Input) → 0 < limit → AtEvery (SomebodyCalled kind) (history_of kind limit inputs)
 one_is_called kind limit inputs some = (world_fits kind limit inputs some).moments

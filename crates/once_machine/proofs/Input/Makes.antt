@@ -33,7 +33,7 @@ one_more b n m e s = rw e (omega arith)
 or_here : (t u : ℕ) (ns : List ℕ) → t ≡ u → member u (t ∷ ns) ≡ true
 or_here t u ns e = grind (arith, nat_tests)
 
--- who is not in the longer list is not in the shorter
+-- a task that is not in the longer list is not in the shorter
 or_rest : (t u : ℕ) (ns : List ℕ) → member u (t ∷ ns) ≡ false → member u ns ≡ false
 or_rest t u ns e = grind (arith, nat_tests)
 
@@ -48,7 +48,7 @@ alone_made {new = new} f p a b (inl i) j k l = false≢true (sym (ap (λ o. is_t
 alone_made {new = new} f p a b (inr i) (inl j) k l = false≢true (sym (ap (λ o. is_inside (step_of o)) p.there) ∙ subst (λ v. is_inside (step_of (new v)) ≡ true) (sym j) l)
 alone_made {new = new} f p a b (inr i) (inr j) k l = f.alone a b (ap (λ o. is_take (step_of o)) (sym (p.others a i)) ∙ k) (ap (λ o. is_inside (step_of o)) (sym (p.others b j)) ∙ l)
 
--- who has a ticket had it before
+-- a task that has a ticket had it before
 ticket_made : (w : World) (new : ℕ → Option Task) (t : ℕ) → new t ≡ Some fresh_task
     → ((u : ℕ) → t ≢ u → new u ≡ w.tasks u) → (u n : ℕ) → ticket_of (step_of (new u)) ≡ Some n
     → ticket_of (step_of (w.tasks u)) ≡ Some n

@@ -1,4 +1,4 @@
--- The owner's calls: where no task is unfinished they keep all that holds.
+-- The owner's calls: if no task is unfinished, they keep all that holds.
 use Rattle.std.proofs.Common.{◌≡◌, ◌≢◌, ℕ, Bool, true, false, ◌==◌, ◌⊎◌, inl, inr, ⊎_elim, List, [], ◌∷◌, Option, Some, None, refl, sym, ap, ◌∙◌, arith}
 use Rattle.std.proofs.lemmas.Bool.Decides.{nat_tests}
 use Rattle.std.proofs.lemmas.Grind.{common_steps}
@@ -54,7 +54,7 @@ record Owned (K : Kind) (limit : ℕ) (c c' : SharedState) (o : OwnerCall) (g : 
   count : (c'.count ≡ 0) ⊎ (c'.count ≡ c.count)
   lists : c'.ready ≡ false → (n : ℕ) (x : Option ℕ) → find_listing n c'.listings ≡ Some x → (c.ready ≡ false) × (find_listing n c.listings ≡ Some x)
 
--- where the owner replaces the cell the counts start anew, and nobody is listed
+-- if the owner replaces the cell, the counts start anew, and nobody is listed
 replaced : (K : Kind) (o : OwnerCall) (g : Got) (h : List Entry) → replaces o ≡ true → ((u : ℕ) → status K u h ≢ Waiting) → QueueFits K [] (Own o g ∷ h)
 replaced K o g h r w = record { counts = λ k. rw r (omega arith); called = λ e u s. absurd (w u s) }
 

@@ -42,7 +42,7 @@ releasing_acts K u c h e r = grind (arith, nat_tests, common_steps)
 pub leaves_acts : (K : Kind) (u : ℕ) (h : List Entry) (e : Ending) → MayLeave K u h e → is_under_way (status K u h) ≡ true
 leaves_acts K u h e o = grind (arith, nat_tests, common_steps)
 
--- who acts does not wait
+-- a task that acts does not wait
 pub no_wait : {s : Status} → is_under_way s ≡ true → s ≡ Waiting → ⊥
 no_wait a w = false≢true (sym (ap is_under_way w) ∙ a)
 
@@ -50,7 +50,7 @@ no_wait a w = false≢true (sym (ap is_under_way w) ∙ a)
 abbrev IsCounted : Kind → ℕ → List Entry → Type 0
 IsCounted K u h = (status K u h ≡ Waiting) ⊎ ((is_under_way (status K u h) ≡ true) ⊎ ((status K u h ≡ Holding) × (holds u (cell K h) ≡ true)))
 
--- the same where it puts the value
+-- a holder that is counted as it polls the init is counted as it puts the value
 head_put : (by : Option ℕ) → is_counted_at (AtRun by) ≡ true → is_counted_at (AtPut by) ≡ true
 head_put by e = grind (arith, nat_tests, common_steps)
 
@@ -109,7 +109,7 @@ module _ (K : Kind) (limit u : ℕ) (c : SharedState) (h : List Entry) where
   stands_head None a s k = absurd (false≢true (sym a.0.holds_is ∙ s))
   stands_head (Some x) a s k = head_in x.step a.step s k
 
--- who waits, acts or holds is about
+-- a task that waits, acts or holds is about
 about : (s : Status) → (s ≡ Waiting) ⊎ ((is_under_way s ≡ true) ⊎ (s ≡ Holding)) → is_about s ≡ true
 about s e = grind (arith, common_steps)
 

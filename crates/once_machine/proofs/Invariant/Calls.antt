@@ -1,4 +1,4 @@
--- An entry that calls the first listing, and one after which the value is set: what they leave of the listings.
+-- An entry that wakes the first listing, and one after which the value is set: what they leave of the listings.
 use Rattle.std.proofs.Common.{◌≡◌, ℕ, true, false, ⊎_elim, inl, inr, List, ◌∷◌, Option, Some, None, refl, sym, ◌∙◌, arith}
 use Rattle.std.specs.Option.{option_to_list}
 use Rattle.std.proofs.lemmas.Bool.{false≢true}
@@ -20,12 +20,12 @@ handed_now u w e h n m = grind (arith, member-append, no_end u e n)
 one_member : (w : ℕ) (o : Option ℕ) → o ≡ Some w → member w (option_to_list o) ≡ true
 one_member w o e = rw (e, eqb_self w) refl
 
--- the first listing with a waker is called by an entry that hands it out
+-- the first listing with a waker is woken by an entry that hands this waker out
 pub call_kept : (u n : ℕ) {o : Option ℕ} (xs : List (Listing ℕ)) (e : Entry) (h : List Entry) → is_of u e ≡ false
     → handed_by e ≡ option_to_list (first_waker xs) → find_listing n xs ≡ Some o → IsKept u n o (call_first xs) (e ∷ h)
 call_kept u n {o} xs e h is all f = ⊎_elim (λ k. inl k) (λ k. inr (k.0, k.1, k.2, handed_now u k.0 e h is (rw all (one_member k.0 (first_waker xs) k.3)))) (call_find n o xs f)
 
--- where the value is set afterwards the listings matter no more
+-- if the value is set afterwards, the listings matter no more
 pub ready_lists : (t : ℕ) (k : Option ℕ) (c c' : SharedState) (h' : List Entry) → c'.ready ≡ true → ListMoves t k None c c' h'
 ready_lists t k c c' h' e = record {
   up = λ _. e;

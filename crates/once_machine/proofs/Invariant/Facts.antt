@@ -93,13 +93,13 @@ Releasing K t h c _ = ⊥
 abbrev pub IsSomeDoor : SharedState → Type 0
 IsSomeDoor c = (q : ℕ) × (c.door ≡ Some q)
 
--- the listing of t with the ticket n, unless the value is set: it has the waker of t's last poll that ended Pending, or was called, and that waker was handed out since
+-- the listing of t with the ticket n, unless the value is set: it has the waker of t's last poll that ended Pending, or it was woken, and that waker was handed out since
 abbrev pub IsListed : Kind → ℕ → SharedState → List Entry → ℕ → Type 0
 IsListed K t c h n =
     c.ready ≡ false → (find_listing n c.listings ≡ Some (Some (last_call K t h).listed)) ⊎
     ((find_listing n c.listings ≡ Some None) × (member (last_call K t h).listed (handed_since t h) ≡ true))
 
--- what stands for the ticket of a task in a poll: it has one only where it began the poll waiting
+-- what stands for the ticket of a task in a poll: it has one only if it began the poll waiting
 abbrev pub HasTicket : Kind → ℕ → SharedState → List Entry → Option ℕ → Type 0
 HasTicket K t c h None = Unit {0}
 HasTicket K t c h (Some n) = ((last_call K t h).began ≡ Waiting) × IsListed K t c h n

@@ -11,7 +11,7 @@ use Rattle.once_machine.specs.Wakers.{handed_since}
 use Rattle.once_machine.proofs.History.Others.{Keeps}
 use Rattle.once_machine.proofs.Invariant.Facts.{HasTicket, IsListed, RestsOn}
 
--- what the step of another leaves of the listing n of u, which had the waker o, if any: the same, or none where it was called
+-- what the step of another leaves of the listing n of u, which had the waker o, if any: the same, or none if it was woken
 abbrev pub IsKept : ℕ → ℕ → Option ℕ → List (Listing ℕ) → List Entry → Type 0
 IsKept u n o ys h' = (find_listing n ys ≡ Some o) ⊎ ((w : ℕ) × (o ≡ Some w) × (find_listing n ys ≡ Some None) × (member w (handed_since u h') ≡ true))
 

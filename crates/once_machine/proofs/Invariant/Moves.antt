@@ -85,11 +85,11 @@ counted c c' n n' b b' p q e g k x y =
 pub inside_counted : (s : Step ℕ ℕ) → is_inside s ≡ true → is_counted s ≡ true
 inside_counted s e = grind (arith, common_steps)
 
--- who takes the queue does not wait
+-- a task that takes the queue out of the door does not wait
 take_not_inside : (s : Step ℕ ℕ) → is_take s ≡ true → is_inside s ≡ true → ⊥
 take_not_inside s a b = grind (arith, common_steps)
 
--- the value is set where a task takes the queue out of the door
+-- the value is set when a task takes the queue out of the door
 take_ready : (K : Kind) (limit t : ℕ) (c : SharedState) (h : List Entry) (o : Option Task)
     → StandsFor K limit t c h o → is_take (step_of o) ≡ true → c.ready ≡ true
 take_ready K limit t c h o a k = grind (arith, common_steps)

@@ -1,4 +1,4 @@
--- What the tickets of the tasks tell: who has which listing, and that somebody was called.
+-- What the tickets of the tasks tell: which task has which listing, and that some task was woken.
 use Rattle.std.proofs.Common.{◌≡◌, ◌≢◌, ℕ, true, false, ◌⊎◌, inl, inr, ⊎_elim, List, Option, Some, None, sym, ap, ◌∙◌, subst}
 use Rattle.std.proofs.lemmas.Bool.{false≢true, cases_eq}
 use Rattle.once_machine.specs.Record.{Entry, Kind}
@@ -57,7 +57,7 @@ rests_at : (K : Kind) (u n : ℕ) (c : SharedState) (h : List Entry) (k : Option
 rests_at K u n c h None e a = absurd a
 rests_at K u n c h (Some m) e a = subst (λ v. IsListed K u c h v) (same_some m n e) a.1
 
--- who leaves has its turn until it passes it on
+-- a task that leaves has its turn until it passes it on
 leaves_turn : (K : Kind) (u : ℕ) (h : List Entry) (e : Ending) → (last_call K u h).began ≡ Waiting → MayLeave K u h e → HasTurn K u h
 leaves_turn K u h EndMemory b a = record { under_way = ap is_under_way a.0.poll.status_is; began = b; unclaimed = a.0.unclaimed; unpassed = a.0.poll.unpassed }
 leaves_turn K u h EndDropped b a = record { under_way = ap is_under_way a.0.status_is; began = b; unclaimed = a.1; unpassed = a.2 }
@@ -111,7 +111,7 @@ ticketed {K = K} {limit = limit} {w = w} f u e = ticketed_by K limit u w.shared 
 called_not : (c : SharedState) (n w : ℕ) → find_listing n c.listings ≡ Some None → find_listing n c.listings ≡ Some (Some w) → ⊥
 called_not c n w a b = cc
 
--- in an empty cell for which somebody waits a listing was called, and so its task
+-- in an empty cell for which some task waits, a listing was woken, and so was its task
 pub somebody_called : (K : Kind) (limit : ℕ) (c : SharedState) (h : List Entry) (tasks : ℕ → Option Task)
     → c.ready ≡ is_set (cell K h) → CalledAt K c.listings h
     → (c.ready ≡ false → (n : ℕ) (o : Option ℕ) → find_listing n c.listings ≡ Some o → (u : ℕ) × (ticket_of (step_of (tasks u)) ≡ Some n))

@@ -1,4 +1,4 @@
--- Where no call is under way, the task that was called is one that waits.
+-- If no poll or drop is under way, the task that was woken is one that waits.
 use Rattle.std.proofs.Common.{◌≡◌, ℕ, Bool, true, false, ⊎_elim, List, [], ◌∷◌, refl, sym, ◌∙◌, subst, arith}
 use Rattle.std.proofs.lemmas.Bool.Decides.{nat_tests}
 use Rattle.std.proofs.lemmas.Grind.{common_steps}
@@ -11,7 +11,7 @@ use Rattle.once_machine.specs.Wakers.{handed_since}
 use Rattle.once_machine.specs.Run.{AtEvery}
 use Rattle.once_machine.specs.Called.{IsCalled, SomebodyCalled, WaiterCalled}
 
--- the last call's poll was the last to end Pending
+-- the waker of the last poll is that of the last poll that ended Pending
 abbrev IsListed : LastCall → Type 0
 IsListed p = p.listed ≡ p.waker
 
@@ -33,11 +33,11 @@ waiting_listed : (K : Kind) (t : ℕ) (h : List Entry) → status K t h ≡ Wait
 waiting_listed K t [] s = refl
 waiting_listed K t (e ∷ h) s = listed_by K t e h (is_of t e) refl (waiting_listed K t h) s
 
--- a task that was called and is in no call waits
+-- a task that was woken and is in no poll or drop waits
 idle_waits : (K : Kind) (t : ℕ) (h : List Entry) → is_under_way (status K t h) ≡ false → IsCalled K t h → status K t h ≡ Waiting
 idle_waits K t h n c = ⊎_elim (λ s. s) (λ s. absurd (false≢true (sym n ∙ s.under_way))) c.0
 
--- where no call is under way, a task that waits was called
+-- if no poll or drop is under way and a task waits for an empty cell, some task that waits was woken
 idle_called : (K : Kind) (h : List Entry) → SomebodyCalled K h → WaiterCalled K h
 idle_called K h called idle empty u s =
     let c = called empty u s in

@@ -19,12 +19,12 @@ memory_by K limit t h None Waiting b m = since_weaken K t h (subst (λ y. Memory
 memory_by K limit t h None s b m = absurd (subst (λ y. MemoryFrom K y t h) b m.1)
 memory_by K limit t h (Some a) s b m = absurd m
 
--- want of memory is answered only where another task held or was in a call since the poll began
+-- want of memory is answered only if another task held or was in a call since the poll began
 pub memory_met : (K : Kind) (limit t : ℕ) (h : List Entry) → IsRun K limit (End t Memory ∷ h) → Since t (OtherActs K t) h
 memory_met K limit t h r = memory_by K limit t h (last_call K t h).ran (last_call K t h).began refl r.0.1
 
 module _ (K : Kind) (limit t : ℕ) (h : List Entry) (r : IsRun K limit h) (n : OtherActs K t h → ⊥) where
-  -- who is about and does not act waits
+  -- another task that is about and does not act waits
   about_by : (u : ℕ) → t ≢ u
       → (s : Status) → status K u h ≡ s → is_about s ≡ true → is_waiting s ≡ true
   about_by u d Waiting e a = refl
@@ -33,13 +33,13 @@ module _ (K : Kind) (limit t : ℕ) (h : List Entry) (r : IsRun K limit h) (n : 
   about_by u d Holding e a = absurd (n (inl (u, d, holding_holds K limit u h r e)))
   about_by u d _ e a = absurd (false≢true a)
 
-  -- the same for who is another task
+  -- the same of each task, by whether it is t
   waits_by : (u : ℕ) (b : Bool)
       → (u == t) ≡ b → cond b false (is_about (status K u h)) ≡ true → cond b false (is_waiting (status K u h)) ≡ true
   waits_by u true e a = a
   waits_by u false e a = about_by u (λ k. false≢true (sym e ∙ eq-eqb u t (sym k))) (status K u h) refl a
 
-  -- where nobody else holds or is in a call, the crowd waits
+  -- if no other task holds or is in a call, the crowd waits
   crowd_waits : crowd K t h ≤ waiters K t h
   crowd_waits =
       count_weaker (made_in h) (λ u. cond (u == t) false (is_about (status K u h)))
@@ -56,7 +56,7 @@ since_by : (P Q : List Entry → Type 0) (moments : List (List Entry)) (b : Bool
 since_by P Q moments true m f = absurd m
 since_by P Q moments false m f = f refl m
 
--- since the Begin, where the crowd had limit tasks, so many waited
+-- if no other task acted since the Begin, and the crowd had limit tasks at some moment, so many waited then
 crowded_waits : (K : Kind) (limit t : ℕ) (h : List Entry) → IsRun K limit h → (Since t (OtherActs K t) h → ⊥)
     → Since t (IsCrowded K limit t) h → Since t (AreWaiting K limit t) h
 crowded_waits K limit t [] r n s = s
@@ -71,7 +71,7 @@ full_by : (K : Kind) (limit t : ℕ) (h : List Entry) (a : Option Answer) → Ma
 full_by K limit t h None m = m.2
 full_by K limit t h (Some a) m = absurd m
 
--- Full is answered to a poll that nobody overlaps only where at least limit other tasks wait
+-- Full is answered to a poll that no other task overlaps only if at least limit other tasks waited since it began
 pub full_waits : (K : Kind) (limit t : ℕ) (h : List Entry) → IsRun K limit (End t Full ∷ h) → (Since t (OtherActs K t) h → ⊥) → Since t (AreWaiting K limit t) h
 full_waits K limit t h r n = crowded_waits K limit t h r.1 n (full_by K limit t h (last_call K t h).ran r.0.1)
 

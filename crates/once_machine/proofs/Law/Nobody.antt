@@ -1,4 +1,4 @@
--- Where the cell is set, nobody who waits is forgotten: from the run alone.
+-- If the cell is set, no waiting task is forgotten: from the run alone.
 use Rattle.std.proofs.Common.{◌≡◌, ◌≢◌, ℕ, Bool, true, false, ⊎_elim, List, [], ◌∷◌, ◌++◌, refl, sym, ap, ◌∙◌, arith}
 use Rattle.std.proofs.lemmas.Bool.{false≢true}
 use Rattle.once_machine.specs.Numbers.{member}
@@ -58,13 +58,13 @@ ended_awake K t Pending h n u is w = pending_awake t (cell K h) n w
 ended_awake K t r h n u is w = grind arith
 
 module _ (K : Kind) (limit w : ℕ) where
-  -- where all are gone nobody waits
+  -- if all tasks are gone, nobody waits
   owned_due : (o : OwnerCall) (g : Got) (h : List Entry) → IsRun K limit h → all_gone K h ≡ true → IsDue K w (Own o g ∷ h) → ⊥
   owned_due o g h r a d =
       let s : status K d.0 h ≡ Waiting = d.1 in
       ⊎_elim (λ e. let z : ⊥ = cc in z) (λ e. false≢true (sym (ap is_gone s) ∙ e)) (over_all K limit d.0 h r a)
 
-  -- where the cell is set, nobody is owed a waker
+  -- if the cell is set, nobody is owed a waker
   nobody_owed : (h : List Entry) → IsRun K limit h → is_set (cell K h) ≡ true → IsDue K w h → ⊥
   nobody_owed [] r n d = grind (arith, d.1)
   nobody_owed (Claim t ∷ h) r n d = false≢true n
@@ -76,7 +76,7 @@ module _ (K : Kind) (limit w : ℕ) where
   nobody_owed (Own o g ∷ h) r n d = owned_due o g h r.1 r.0.0 d
   nobody_owed (e ∷ h) r n d = nobody_owed h r.1 n (due_kept K e h w refl (λ u is. grind arith) d)
 
--- at every moment at which the cell is set, nobody who waits is forgotten
+-- at every moment at which the cell is set, no waiting task is forgotten
 pub nobody_forgotten : (kind : Kind) (limit : ℕ) (h : List Entry) → IsRun kind limit h → AtEvery (NobodyForgotten kind) h
 nobody_forgotten kind limit [] r = λ n w d. nobody_owed kind limit w [] r n d
 nobody_forgotten kind limit (e ∷ h) r = (λ n w d. nobody_owed kind limit w (e ∷ h) r n d, nobody_forgotten kind limit h r.1)

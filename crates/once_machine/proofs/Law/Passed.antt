@@ -1,4 +1,4 @@
--- A release without a value calls one task, and a task that leaves passes its turn on to one. From the run alone.
+-- A release without a value wakes one task, and a task that leaves passes its turn on to one. From the run alone.
 use Rattle.std.proofs.Common.{◌≡◌, ◌≢◌, ◌≤◌, ℕ, Bool, true, false, ◌==◌, ◌⊎◌, inl, inr, ⊎_elim, List, [], ◌∷◌, Option, length, refl, sym, ap, ◌∙◌, arith}
 use Rattle.std.proofs.lemmas.Bool.Decides.{nat_tests}
 use Rattle.std.proofs.lemmas.Grind.{common_steps}
@@ -10,7 +10,7 @@ use Rattle.once_machine.specs.Wakers.{CallsOne, IsDue, IsOpen}
 use Rattle.once_machine.specs.Run.{IsLegal, IsRun, MayPass}
 use Rattle.once_machine.proofs.Listing.Members.{eqb_self}
 
--- who may pass its turn on is in a call
+-- a task that may pass its turn on is in a poll or a drop
 passer_acts : (s : Status) (claimed : Bool) (ran : Option Answer) → MayPass s claimed ran → is_under_way s ≡ true
 passer_acts Dropping claimed ran m = refl
 passer_acts Polling claimed ran m = refl
@@ -21,7 +21,7 @@ passes_acting : (K : Kind) (t u : ℕ) (h : List Entry) → (u == t) ≡ true
     → MayPass (status K u h) (last_call K u h).claimed (last_call K u h).ran → is_under_way (status K t h) ≡ true
 passes_acting K t u h e m = ap (λ v. is_under_way (status K v h)) (sym (eqb-true u t e)) ∙ passer_acts (status K u h) (last_call K u h).claimed (last_call K u h).ran m
 
--- a task in no call passes nothing on
+-- a task in no poll or drop passes nothing on
 pub no_pass : (K : Kind) (t u : ℕ) (h : List Entry) → (u == t) ≡ true → is_under_way (status K t h) ≡ false
     → MayPass (status K u h) (last_call K u h).claimed (last_call K u h).ran → ⊥
 no_pass K t u h e n m = false≢true (sym n ∙ passes_acting K t u h e m)
@@ -36,16 +36,16 @@ one_open K (w ∷ v ∷ X) h o some = let l = o.one in absurd (omega arith)
 pub at_most_one : (K : Kind) (limit t : ℕ) (X : List ℕ) (h : List Entry) → IsRun K limit (Free t X ∷ h) → length X ≤ 1
 at_most_one K limit t X h r = r.0.2.one
 
--- and one that is open where a waker is due
+-- and one that is open if a waker is due
 pub one_called : (K : Kind) (limit t d : ℕ) (X : List ℕ) (h : List Entry) → IsRun K limit (Free t X ∷ h) → IsDue K d h → (w : ℕ) × (X ≡ w ∷ []) × IsOpen K w h
 one_called K limit t d X h r due = one_open K X h r.0.2 (r.0.2.due d due)
 
--- who passes a turn on finds the cell empty, and hands one open waker out
+-- a task that passes its turn on finds the cell empty, and hands one open waker out
 pub passed_to_one : (K : Kind) (limit t : ℕ) (X : List ℕ) (h : List Entry) → IsRun K limit (Pass t X ∷ h)
     → (cell K h ≡ Empty) × ((w : ℕ) × (X ≡ w ∷ []) × IsOpen K w h)
 passed_to_one K limit t X h r = (r.0.0, r.0.3)
 
--- it does so once in a call
+-- it does so once in a poll or drop
 pub passed_once : (K : Kind) (limit t : ℕ) (X : List ℕ) (h : List Entry) → IsRun K limit (Pass t X ∷ h) → (last_call K t h).passed ≡ false
 passed_once K limit t X h r = r.0.2
 
@@ -57,7 +57,7 @@ passed_unclaimed K limit t h r = r.0.3
 pub passed_refused : (K : Kind) (limit t : ℕ) (a : Reply) (h : List Entry) → IsRun K limit (End t a ∷ h) → (last_call K t h).passed ≡ true → a ≡ Memory
 passed_refused K limit t a h r p = ⊎_elim (λ n. absurd (false≢true (sym n ∙ p))) (λ m. m) r.0.2
 
--- a task is in a call, or gone
+-- a task is in a poll or a drop, or gone
 abbrev IsLeaving : Status → Type 0
 IsLeaving s = (is_under_way s ≡ true) ⊎ (s ≡ Gone)
 
@@ -85,7 +85,7 @@ module _ (K : Kind) (limit t : ℕ) where
   leaves_by e h true is l ih p = rw is (own_leaves e h is l ih (rw is at p))
   leaves_by e h false is l ih p = rw is (ih (rw is at p))
 
-  -- a task that passed its turn on is in that call still, or gone
+  -- a task that passed its turn on is in that poll or drop still, or gone
   pub passer_gone : (h : List Entry) → IsRun K limit h → (last_call K t h).passed ≡ true
       → (is_under_way (status K t h) ≡ true) ⊎ (status K t h ≡ Gone)
   passer_gone [] r p = absurd (false≢true p)

@@ -1,4 +1,4 @@
--- A task without a Made is unmade: where all that were made are gone, each task is unmade or gone.
+-- A task without a Made is unmade: if all that were made are gone, each task is unmade or gone.
 use Rattle.std.proofs.Common.{◌≡◌, ℕ, Bool, true, false, ◌==◌, ◌⊎◌, inl, inr, ⊎_elim, List, [], ◌∷◌, refl, sym, ap, ◌∙◌, subst, arith}
 use Rattle.std.proofs.lemmas.Grind.{common_steps}
 use Rattle.std.proofs.lemmas.Bool.{false≢true, cases_Bool, eqb-true}
@@ -23,7 +23,7 @@ no_begin K t u h e s m =
     let w : status K u h ≡ Unmade = ap (λ v. status K v h) (eqb-true u t e) ∙ s in
     subst MayBegin w m
 
--- who is made later was not made
+-- a task that is not made after one more entry was not made before it
 made_less : (t : ℕ) (e : Entry) (h : List Entry) → member t (made_in (e ∷ h)) ≡ false → member t (made_in h) ≡ false
 made_less t (Made u) h m = grind arith
 made_less t _ h m = m
@@ -49,6 +49,6 @@ module _ (K : Kind) (limit t : ℕ) where
   unmade_status [] r m = refl
   unmade_status (e ∷ h) r m = unmade_by e h (is_of t e) refl r.0 m (unmade_status h r.1 (made_less t e h m))
 
-  -- where all that were made are gone, each task is unmade or gone
+  -- if all that were made are gone, each task is unmade or gone
   pub over_all : (h : List Entry) → IsRun K limit h → all_gone K h ≡ true → (status K t h ≡ Unmade) ⊎ (is_gone (status K t h) ≡ true)
   over_all h r a = ⊎_elim (λ e. inr (made_there K t (made_in h) h a e)) (λ e. inl (unmade_status h r e)) (cases_Bool (member t (made_in h)))

@@ -18,7 +18,7 @@ taken_by true x ys zs e = e
 taken_by false x ys zs e = ap (λ l. x ∷ l) e
 
 module _ {W : Type 0} (other : W → W → Type 0) where
-  -- nothing is asked of a listing that was called
+  -- nothing is asked of a listing that was woken
   apart_none : (z y : Listing W) (o : Option W) → z.waker ≡ None → y.waker ≡ o → AreApart other z y
   apart_none z y (Some w) none is = rw (is, none) tt
   apart_none z y None none is = rw is tt
@@ -44,7 +44,7 @@ module _ {W : Type 0} (other : W → W → Type 0) where
   pub apart_taken : (n : ℕ) (xs : List (Listing W)) → AllPairs (AreApart other) xs → AllPairs (AreApart other) (take_out n xs)
   apart_taken n xs apart = subst (AllPairs (AreApart other)) (taken_filter n xs) (AllPairs-filter (AreApart other) (λ x. not (x.ticket == n)) xs apart)
 
-  -- the first is called
+  -- the first is woken
   first_by_place : (o : Option ℕ) (xs : List (Listing W)) → o ≡ position has_waker xs → AllPairs (AreApart other) xs → AllPairs (AreApart other) (call_first xs)
   first_by_place None xs e apart = rw (nobody_left xs (sym e)).1 apart
   first_by_place (Some i) [] e apart = apart
@@ -73,7 +73,7 @@ module _ {W : Type 0} (other : W → W → Type 0) where
       → IfSome y.waker (λ w. All (λ x. IfSome x.waker (λ v. other v w)) xs) → AllPairs (AreApart other) (xs ++ y ∷ [])
   apart_pushed xs y apart all = all_pairs_push (AreApart other) xs y apart (λ k d l. other_at k xs d y.waker l all)
 
-  -- the same, where none of the comparisons until now and of those with the new one told two to be the same
+  -- the same, if none of the comparisons until now and of those with the new one told two to be the same
   pub apart_listed : (mixed repeats : Bool) (xs : List (Listing W)) (y : Listing W) → (mixed || repeats) ≡ false
       → (mixed ≡ false → ∥ AllPairs (AreApart other) xs ∥₁)
       → (repeats ≡ false → IfSome y.waker (λ w. All (λ x. IfSome x.waker (λ v. other v w)) xs)) → ∥ AllPairs (AreApart other) (xs ++ y ∷ []) ∥₁
@@ -81,13 +81,13 @@ module _ {W : Type 0} (other : W → W → Type 0) where
   apart_listed false true xs y e apart new = absurd (false≢true (sym e))
   apart_listed true repeats xs y e apart new = absurd (false≢true (sym e))
 
-  -- where each two are other, those of all listings are
+  -- if each two wakers are other, those of all listings are
   each_apart : (o p : Option W) → ((a b : W) → other a b) → IfSome p (λ w. IfSome o (λ v. other v w))
   each_apart (Some v) (Some w) all = all v w
   each_apart None (Some w) all = tt
   each_apart o None all = tt
 
-  -- so where the list counts as mixed unless they are
+  -- a list that counts as mixed unless each two wakers are other has them apart while it does not count so
   pub apart_renewed : (mixed all : Bool) (xs : List (Listing W)) → (mixed || not all) ≡ false → (all ≡ true → (a b : W) → other a b)
       → ∥ AllPairs (AreApart other) xs ∥₁
   apart_renewed false true xs e each = ∣ (λ j k d l lk. each_apart (get_or xs j d).waker (get_or xs k d).waker (each refl)) ∣₁

@@ -1,4 +1,4 @@
--- Where the one who is listed under a waker is told by the waker, no waker is listed twice, and a fill hands out all of them.
+-- If each waker tells the ticket of its listing, no waker is listed twice, and a fill hands out all of them.
 use Rattle.std.proofs.Common.{◌≡◌, ℕ, Bool, true, false, ◌==◌, List, [], ◌∷◌, Option, Some, None, refl, sym, ap, ◌∙◌, subst, arith}
 use Rattle.std.specs.List.{cons_option}
 use Rattle.std.proofs.lemmas.Bool.{false≢true, eqb-true}
@@ -31,7 +31,7 @@ out_apart (Some w) xs seen d apart rest =
     let distinct : is_distinct ws ≡ true = grind arith in
     rw fresh (ap (λ (ns : List ℕ). w ∷ ns) (rest (w ∷ seen) distinct (λ n m. not_seen w n ws seen other m (apart n (later w n ws m)))))
 
--- where no waker stands twice, and none was seen, all are handed out
+-- if no waker stands twice, and none was seen, all are handed out
 pub all_apart : (xs : List (Listing ℕ)) (seen : List ℕ) → is_distinct (wakers_of xs) ≡ true
     → ((n : ℕ) → member n (wakers_of xs) ≡ true → member n seen ≡ false) → all_out xs seen ≡ wakers_of xs
 all_apart [] seen d apart = refl
@@ -65,7 +65,7 @@ listing_of : (v : ℕ) (xs : List (Listing ℕ)) → is_distinct (tickets xs) �
 listing_of v [] d m = absurd (false≢true m)
 listing_of v (x ∷ xs) d m = listing_by x x.waker v xs refl d m (listing_of v xs (rest_once x xs d))
 
--- the first waker is not among the later ones, where the ticket of each is told by the waker
+-- the first waker is not among the later ones, if each waker tells the ticket of its listing
 apart_by : (T : ℕ → Option ℕ) (x : Listing ℕ) (o : Option ℕ) (xs : List (Listing ℕ)) → x.waker ≡ o → is_distinct (tickets (x ∷ xs)) ≡ true
     → ((n v : ℕ) → find_listing n (x ∷ xs) ≡ Some (Some v) → T v ≡ Some n) → is_distinct (wakers_of xs) ≡ true → is_distinct (cons_option o (wakers_of xs)) ≡ true
 apart_by T x None xs is d own rest = rest

@@ -1,11 +1,11 @@
--- What the call of the first listing leaves.
+-- What waking the first listing leaves.
 use Rattle.std.proofs.Common.{◌≡◌, ℕ, Bool, true, false, ◌==◌, ◌⊎◌, inl, inr, List, [], ◌∷◌, Option, Some, None, refl, ap, arith}
 use Rattle.std.specs.Option.{option_or}
 use Rattle.once_machine.specs.declared.waiters.Listing.{Listing}
 use Rattle.once_machine.specs.Listings.{call_by, call_first, find_listing, first_waker}
 use Rattle.once_machine.proofs.Listing.Members.{eqb_self}
 
--- what it leaves of the listing n that had the waker o, if any: the same, or none where it was called
+-- what it leaves of the listing n that had the waker o, if any: the same, or none if it was woken
 abbrev pub Called : ℕ → Option ℕ → List (Listing ℕ) → Type 0
 Called n o xs = (find_listing n (call_first xs) ≡ Some o) ⊎ ((w : ℕ) × (o ≡ Some w) × (find_listing n (call_first xs) ≡ Some None) × (first_waker xs ≡ Some w))
 
@@ -38,7 +38,7 @@ called_by : (x : Listing ℕ) (xs : List (Listing ℕ)) (k : Option ℕ) → x.w
 called_by x xs (Some w) is = (x.ticket, rw (eqb_self x.ticket) refl)
 called_by x xs None is = (x.ticket, rw (eqb_self x.ticket) (ap (λ (o : Option ℕ). Some o) is))
 
--- after it some listing was called
+-- after it some listing was woken, if one had a waker
 pub call_called : (w : ℕ) (xs : List (Listing ℕ)) → first_waker xs ≡ Some w → (n : ℕ) × (find_listing n (call_first xs) ≡ Some None)
 call_called w [] e = grind arith
 call_called w (x ∷ xs) e = called_by x xs x.waker refl
@@ -48,7 +48,7 @@ call_none_by : (x : Listing ℕ) (xs : List (Listing ℕ)) (k : Option ℕ) → 
 call_none_by x xs (Some w) e ih = grind arith
 call_none_by x xs None e ih = ap (λ (ys : List (Listing ℕ)). x ∷ ys) (ih e)
 
--- where nobody can be called the list stays
+-- if no listing has a waker, the list stays
 pub call_none : (xs : List (Listing ℕ)) → first_waker xs ≡ None → call_first xs ≡ xs
 call_none [] e = refl
 call_none (x ∷ xs) e = call_none_by x xs x.waker e (call_none xs)

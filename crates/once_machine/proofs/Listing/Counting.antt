@@ -1,4 +1,4 @@
--- How many of a list pass a test, where each number stands once.
+-- How many of a list pass a test, if each number stands there once.
 use Rattle.std.proofs.Common.{◌≡◌, ◌≢◌, ◌≤◌, ◌<◌, ◌+◌, ℕ, Bool, true, false, ◌⊎◌, inl, inr, List, [], ◌∷◌, length, refl, sym, ap, subst, arith}
 use Rattle.std.proofs.lemmas.Bool.{cases_eq}
 use Rattle.std.proofs.lemmas.Bool.Decides.{nat_tests}
@@ -50,7 +50,7 @@ some_by : (x : ℕ) (xs : List ℕ) (p : ℕ → Bool) (b : Bool) → p x ≡ b 
 some_by x xs p true is l ih = (x, is)
 some_by x xs p false is l ih = ih (let z = ap bit is in omega arith)
 
--- where the count is not 0, some number passes
+-- if the count is not 0, some number passes
 pub count_some : (ns : List ℕ) (p : ℕ → Bool) → 0 < how_many p ns → (u : ℕ) × (p u ≡ true)
 count_some [] p l = absurd (omega arith)
 count_some (x ∷ xs) p l = some_by x xs p (p x) refl l (count_some xs p)

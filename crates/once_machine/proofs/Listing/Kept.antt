@@ -1,4 +1,4 @@
--- Listings among holes: what taking one out, adding one and calling the first leave of those that are kept.
+-- Listings among holes: what taking one out, adding one and waking the first leave of those that are kept.
 use Rattle.std.proofs.Common.{◌≡◌, ◌<◌, ◌≤◌, ◌⊎◌, ℕ, zero, suc, Bool, true, false, cond, not, ◌==◌, List, [], ◌∷◌, ◌++◌}
 use Rattle.std.proofs.Common.{filter, Option, Some, None, length, get_or, set, refl, inl, inr, sym, ap, ◌∙◌, arith}
 use Rattle.std.specs.List.{HoldsAt}
@@ -88,7 +88,7 @@ module _ {W : Type 0} (p : Listing W → Bool) where
   holes_none h [] apart = refl
   holes_none h (x ∷ xs) apart = none_by (p x) h x (filter p xs) (apart x) (holes_none h xs apart)
 
-  -- a listing is taken out where a hole is put in its place
+  -- a listing is taken out if a hole is put in its place
   pub kept_taken : (n i : ℕ) (xs : List (Listing W)) (z d : Listing W) → i < length xs → (get_or xs i d).ticket ≡ n
       → p (get_or xs i d) ≡ true → p z ≡ false → is_distinct (tickets (filter p xs)) ≡ true
       → filter p (set xs i z) ≡ take_out n (filter p xs)
@@ -123,7 +123,7 @@ module _ {W : Type 0} (p : Listing W → Bool) where
   pub kept_pushed : (x : Listing W) (xs : List (Listing W)) → p x ≡ true → filter p (xs ++ x ∷ []) ≡ filter p xs ++ x ∷ []
   kept_pushed x xs k = filter-append p xs (x ∷ []) ∙ rw k refl
 
-  -- the first listing that is kept and has a waker is called
+  -- the first listing that is kept and has a waker is woken
   abbrev opens : Listing W → Bool
   opens x = cond (p x) (is_some x.waker) false
 
@@ -158,7 +158,7 @@ module _ {W : Type 0} (p : Listing W → Bool) where
       let left = one_left i xs x l (rw (sym is) waits) before kept (rw none (ap (λ (y : Listing W). record { ticket = y.ticket; waker = None }) is)) in
       (ap (λ (y : Listing W). y.waker) is ∙ left.0, left.1)
 
-  -- where there is a hole, fewer are kept than there are slots
+  -- if there is a hole, fewer are kept than there are slots
   pub kept_length : (xs : List (Listing W)) → length (filter p xs) ≤ length xs
   kept_length [] = omega arith
   kept_length (x ∷ xs) = length_by (p x) x (filter p xs) (length xs) (kept_length xs)

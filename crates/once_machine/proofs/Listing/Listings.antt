@@ -66,7 +66,7 @@ asks_call_by : (w : ℕ) (x : Listing ℕ) (xs : List (Listing ℕ)) (o : Option
 asks_call_by w x xs (Some k) is ih = omega arith
 asks_call_by w x xs None is ih = let z : bit (is_for w x.waker) ≡ 0 = rw is refl in omega arith
 
--- the call of the first hands out what it takes away
+-- waking the first hands out what it takes away
 pub asks_call : (w : ℕ) (xs : List (Listing ℕ)) → asks w (call_first xs) + times_in w (option_to_list (first_waker xs)) ≡ asks w xs
 asks_call w [] = refl
 asks_call w (x ∷ xs) = asks_call_by w x xs x.waker refl (asks_call w xs)
@@ -75,7 +75,7 @@ first_asks_by : (w : ℕ) (o rest : Option ℕ) (m : ℕ) → option_or o rest �
 first_asks_by w (Some k) rest m e ih = grind arith
 first_asks_by w None rest m e ih = let z = ih e in omega arith
 
--- where no listing has a waker
+-- if no listing has a waker, none has this one
 pub first_asks : (w : ℕ) (xs : List (Listing ℕ)) → first_waker xs ≡ None → asks w xs ≡ 0
 first_asks w [] e = refl
 first_asks w (x ∷ xs) e = first_asks_by w x.waker (first_waker xs) (asks w xs) e (first_asks w xs)

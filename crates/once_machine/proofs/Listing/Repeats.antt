@@ -1,4 +1,4 @@
--- What leaves the listings where each waker that is the same as one before it is taken away, from the last listing to the first.
+-- What leaves the listings if each waker that is the same as one before it is taken away, from the last listing to the first.
 use Rattle.std.proofs.Common.{◌≡◌, ◌<◌, ◌≤◌, ℕ, zero, suc, List, [], ◌∷◌, Option, Some, None, All, IfSome, length, get_or, set, take, drop, refl, sym, ap, ◌∙◌, inl, inr, arith, ◌++◌}
 use Rattle.std.proofs.Math.Seq.{drop-cons, take-suc}
 use Rattle.std.proofs.lemmas.List.{get_or_default, get_or-set_same, get_or-take, take-take, take-set, length-set, drop-set-lt}

@@ -1,4 +1,4 @@
--- Lists of listings: which tickets they have, and what taking a listing out, adding one and calling the first leave of them.
+-- Lists of listings: which tickets they have, and what taking a listing out, adding one and waking the first leave of them.
 use Rattle.std.proofs.Common.{◌≡◌, ◌<◌, ◌≤◌, ℕ, zero, suc, Bool, true, false, cond, ◌==◌, nat_lt, List, [], ◌∷◌, ◌++◌, Option, Some, None, IfSome, length, get_or, refl, sym, ap, ◌∙◌, arith}
 use Rattle.std.specs.List.{HoldsAt, position, position_or_len}
 use Rattle.std.specs.Option.{is_some, option_map}
@@ -49,7 +49,7 @@ module _ {W : Type 0} where
   placed n i [] e = grind arith
   placed n i (x ∷ xs) e = ((position-Some (λ y. y.ticket == n) (x ∷ xs) i x e).0, λ d. eqb-true (get_or (x ∷ xs) i d).ticket n (position-Some (λ y. y.ticket == n) (x ∷ xs) i d e).1)
 
-  -- a ticket is kept where its listing is found
+  -- a ticket stands in the list exactly if its listing is found
   find_member : (n : ℕ) (xs : List (Listing W)) → is_some (find_listing n xs) ≡ member n (tickets xs)
   find_member n [] = refl
   find_member n (x ∷ xs) = let ih = find_member n xs in grind (arith, nat_tests)

@@ -1,4 +1,4 @@
--- The first listing that was not called yet: where it stands, and what a call leaves.
+-- The first listing that was not woken yet: where it stands, and what waking it leaves.
 use Rattle.std.proofs.Common.{◌≡◌, ◌<◌, ◌≤◌, ℕ, zero, suc, Bool, true, false, List, [], ◌∷◌, Option, Some, None, length, get_or, set, refl, sym, ap, ◌∙◌, arith}
 use Rattle.std.specs.List.{position, position_or_len}
 use Rattle.std.specs.Option.{is_some, option_or}
@@ -59,7 +59,7 @@ module _ {W : Type 0} where
   first_within i [] e = absurd (none-some i e)
   first_within i (x ∷ xs) e = (position-Some has_waker (x ∷ xs) i x e).0
 
-  -- a call leaves as many
+  -- waking it leaves as many
   length_by : (x : Listing W) (xs : List (Listing W)) (o : Option W) → length (call_first xs) ≡ length xs → length (call_by x o xs (call_first xs)) ≡ suc (length xs)
   length_by x xs (Some w) ih = refl
   length_by x xs None ih = ap suc ih

@@ -107,7 +107,7 @@ module _ (limit n put : ℕ) (slot : Bool) (pages : List Page) (log : List Entry
         (sym (ap (poll_world book.0 t t) m.found ∙ ap (λ b. poll_world_by b book.0 t t x) r)) book.1.reached)
         refl refl refl (resting_unwritten x.step r) (poll_unwritten x.step r)
 
-    -- DropBegin: a drop begins, and ends where the task was never polled
+    -- DropBegin: a drop begins, and ends at once if the task was never polled
     pub drop_begun : is_resting x.step ≡ true
         → IsBook limit n put slot (slice_set pages (suc (suc t)) (At (record x { step = step_of_drop x.step }))) (log ++ reverse (drop_entries t (step_of_drop x.step)))
     drop_begun r = turned (drop_world_by true book.0 t x) (record x { step = step_of_drop x.step }) (drop_entries t (step_of_drop x.step))

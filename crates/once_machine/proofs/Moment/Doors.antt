@@ -42,19 +42,19 @@ module _ (limit n put : ℕ) (slot : Bool) (pages : List Page) (log : List Entry
   abbrev m : Moment limit n put slot pages log t x
   m = moment t some book pen
 
-  -- the book once t went on so, where no other page changed
+  -- the book once t went on so, if no other page changed
   abbrev Steps : Next ℕ ℕ → Type 0
   Steps next = Stepped limit n put slot pages log t x [] next
 
-  -- nobody holds under the lock where the value is set
+  -- nobody holds under the lock if the value is set
   set_headless : c.ready ≡ true → c.head ≡ false
   set_headless r = no_head c.quick c.head (sym (set_free (cell Once m.w.history) (sym m.fits.shared.ready_is ∙ r)) ∙ m.fits.shared.held_is)
 
-  -- the value is set where the queue is taken out of the door
+  -- the value is set when the queue is taken out of the door
   taken_ready : (e : Ending) → x.step ≡ UnderWay (AtDoorTake e) → c.ready ≡ true
   taken_ready e at = (stands t some book pen (AtDoorTake e) at).1
 
-  -- AtDoorTake where no queue was ever put: the load of the flag that says so
+  -- AtDoorTake if no queue was ever put: the load of the flag that says so
   pub take_none : (e : Ending) → x.step ≡ UnderWay (AtDoorTake e) → put ≡ 0 → Steps (next_end e)
   take_none e at z =
       let r = taken_ready e at in
@@ -82,11 +82,11 @@ module _ (limit n put : ℕ) (slot : Bool) (pages : List Page) (log : List Entry
           stepped_still t some book pen false (next_at (AtRelease 1 e)) at (ap (λ q. outcome_of c t x.kept [] (after_door_again q e)) d),
         )
 
-    -- AtDoorPut where another put a queue first
+    -- AtDoorPut if another task put a queue first
     pub put_found : (q : ℕ) → x.step ≡ UnderWay AtDoorPut → door ≡ Some q → Steps (next_at (AtCountIn q))
     put_found q at e = stepped_still t some book pen true (next_at (AtCountIn q)) at (ap (λ d. put_step true d c t x.kept) (own_door.1 ∙ e))
 
-    -- where memory is refused
+    -- AtDoorPut if memory is refused
     pub put_refused : x.step ≡ UnderWay AtDoorPut → Steps (closing_end EndMemory)
     put_refused at = stepped_still t some book pen false (closing_end EndMemory) at refl
 
@@ -101,7 +101,7 @@ module _ (limit n put : ℕ) (slot : Bool) (pages : List Page) (log : List Entry
         (set_other pages 0 1 (Door made' door') zero_one ∙ book.1.queue_is ∙ ap (λ h. Some (Queue h c.listings)) (sym b) ∙ ap (λ ys. Some (Queue c'.head ys)) (sym l))
         (λ u. set_other pages 0 (suc (suc u)) (Door made' door') (zero_task u))
 
-    -- AtDoorPut where none stands: a new queue is put. The queue's page is left, since nobody is listed there
+    -- AtDoorPut if no queue stands there: a new one is put. The queue's page is left, since nobody is listed there
     pub put_new : x.step ≡ UnderWay AtDoorPut → door ≡ None
         → Stepped limit n 1 slot (slice_set pages 0 (Door (suc made) (Some (suc made)))) log t x [] (next_at (AtCountIn (suc made)))
     put_new at e =

@@ -35,7 +35,7 @@ opens limit = (
   },
 )
 
--- the entries of a step of t, the oldest first: what it did, and the end of the call, where the table of places tells one
+-- the entries of a step of t, the oldest first: what it did, and the end of the call, if the table of places tells one
 abbrev pub told : ℕ → Answer → Next ℕ ℕ → List Entry → List Entry
 told t k next did = reverse (progress_entries next.progress t 0 k ++ did)
 
@@ -58,7 +58,7 @@ pub record Moment (limit word put : ℕ) (slot : Bool) (pages : List Page) (log 
 
 module _ {limit n put : ℕ} {slot : Bool} {pages : List Page} {log : List Entry} (t : ℕ) {x : Task} (some : 0 < limit)
     (book : IsBook limit n put slot pages log) (pen : slice_get pages (suc (suc t)) ≡ Some (At x)) where
-  -- whoever has the page of t
+  -- the moment of t, whose page has the task x
   abbrev pub moment : Moment limit n put slot pages log t x
   moment = record {
     w = book.0;
@@ -72,7 +72,7 @@ module _ {limit n put : ℕ} {slot : Bool} {pages : List Page} {log : List Entry
   pub stands : (p : Place ℕ ℕ) → x.step ≡ UnderWay p → AtPlace Once limit t book.0.shared book.0.history p
   stands p at = subst (λ s. AtStep Once limit t book.0.shared book.0.history s) at (task_fits Once limit t book.0 x moment.fits moment.found).step
 
-  -- a step of t at the place p with this outcome, where the pages of the door and of the queue follow
+  -- a step of t at the place p with this outcome, if the pages of the door and of the queue follow
   pub stepped : (word put' : ℕ) (pages' : List Page) (a : Answer) (g : Bool) (p : Place ℕ ℕ) (c' : SharedState) (k' : Answer) (did : List Entry) (next : Next ℕ ℕ)
       → IsUnnamed a → x.step ≡ UnderWay p → place_step false limit book.0.shared t x.waker x.kept a g p ≡ outcome_of c' t k' did next
       → word < 2 ^ 64 → flags_of word ≡ word_of c' → put' ≡ bit (nat_lt 0 c'.queues)
@@ -110,7 +110,7 @@ module _ {limit n put : ℕ} {slot : Bool} {pages : List Page} {log : List Entry
         },
       )
 
-  -- the same where only the page of t changes, and no value is put
+  -- the same if only the page of t changes, and no value is put
   pub stepped_alone : (word : ℕ) (g : Bool) (p : Place ℕ ℕ) (c' : SharedState) (did : List Entry) (next : Next ℕ ℕ) → x.step ≡ UnderWay p
       → place_step false limit book.0.shared t x.waker x.kept RanPending g p ≡ outcome_of c' t x.kept did next
       → word < 2 ^ 64 → flags_of word ≡ word_of c' → put ≡ bit (nat_lt 0 c'.queues)

@@ -104,7 +104,7 @@ module _ (limit n put : ℕ) (slot : Bool) (pages : List Page) (log : List Entry
   abbrev m : Moment limit n put slot pages log t x
   m = moment t some book pen
 
-  -- the book once t went on so, after which the word stands, where no other page changed
+  -- the book once t went on so and left this word, if no other page changed
   abbrev Steps : ℕ → List Entry → Next ℕ ℕ → Type 0
   Steps word did next = Stepped limit word put slot pages log t x did next
 

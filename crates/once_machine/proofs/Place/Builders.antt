@@ -43,7 +43,7 @@ same_shared r d q e v n = record {
   within = inl n;
 }
 
--- what a step leaves where no other task holds
+-- what a step that leaves the door alone leaves for a task that does not hold
 pub free_shared : {K : Kind} {limit : ℕ} {c c' : SharedState} {u : ℕ} {h : List Entry} {b : Bool} → (c.ready ≡ true → c'.ready ≡ true) → c'.door ≡ c.door → holds u (cell K h) ≡ false
     → SharedKeeps K limit c c' u h b
 free_shared r d n = record {
@@ -98,7 +98,7 @@ shared_at e s f = record {
   head_door = f.head_door;
 }
 
--- who does not hold is not the holder
+-- a task that does not hold is not the holder
 not_holding : (t : ℕ) (c : Cell) → holds t c ≡ false → c ≢ Held t
 not_holding t c n e = false≢true (sym n ∙ ap (holds t) e ∙ eqb_self t)
 

@@ -128,7 +128,7 @@ release_fits t f hold r n q e v same d w z = record {
 quick_free : (a b : Bool) → false ≡ (a || b) → false ≡ (a || false)
 quick_free a b e = grind arith
 
--- after the queue is taken out of the door, where the value is set
+-- after the queue is taken out of the door, if the value is set
 pub take_fits : (K : Kind) (limit : ℕ) (c : SharedState) (h : List Entry) → SharedFits K limit c h → c.ready ≡ true → SharedFits K limit (take_shared c) h
 take_fits K limit c h f r =
     let n = set_free (cell K h) (sym f.ready_is ∙ r) in
@@ -142,7 +142,7 @@ take_fits K limit c h f r =
       head_door = λ e. absurd (false≢true e);
     }
 
--- an empty list fits where nobody waits
+-- an empty list fits if nobody waits
 pub nobody : (K : Kind) (xs : List (Listing ℕ)) (h : List Entry) → QueueFits K xs h → ((u : ℕ) → status K u h ≢ Waiting) → QueueFits K [] h
 nobody K xs h q n = list_fits K xs [] h q (λ w. omega arith) (nobody_called K [] h n)
 

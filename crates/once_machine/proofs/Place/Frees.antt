@@ -21,7 +21,7 @@ use Rattle.once_machine.specs.Word.{is_quick_bit, is_ready_bit}
 pub exact : (c : SharedState) → is_quick_bit (word_of c) ≡ true → c.count ≡ 0
 exact c e = grind (arith, nat_tests)
 
--- where it is not, while t holds by the quick bit, somebody is in the count
+-- if it is not, while t holds by the quick bit, some task is in the count
 pub inexact : (c : SharedState) → c.ready ≡ false → c.quick ≡ true → is_quick_bit (word_of c) ≡ false → 0 < c.count
 inexact c r q e = grind (arith, nat_tests)
 
@@ -58,7 +58,7 @@ pub fill_legal : (K : Kind) (limit t : ℕ) (h : List Entry) (c : SharedState) (
     → (r : Releasing K t h c EndValue) → HandsOut K X h → IsLegal K limit (Fill t r.0 X) h
 fill_legal K limit t h c X r o = (held_by t (cell K h) r.1.holds_is, r.1.status_is, r.1.ran_is, o)
 
--- who acts does not wait
+-- a task that acts does not wait
 under_way_awake : {s : Status} → is_under_way s ≡ true → s ≢ Waiting
 under_way_awake a w = false≢true (sym (ap is_under_way w) ∙ a)
 

@@ -64,7 +64,7 @@ ran_in K t h a i = record { status_is = rw (eqb_self t) i.status_is; ran_is = rw
 pending_in : (K : Kind) (t : ℕ) (h : List Entry) → InPoll K t h None true → InStatus K t (End t Pending ∷ Ran t RanPending ∷ h) Holding true
 pending_in K t h i = let held = held_by t (cell K h) i.holds_is in record { status_is = rw (eqb_self t, held, eqb_self t) refl; holds_is = i.holds_is }
 
--- nothing that a holder relies on changes where the init answers or the value is put
+-- nothing that a holder relies on changes when the init answers or the value is put
 by_same : (limit : ℕ) (c c' : SharedState) (by : Option ℕ) → (c'.quick ≡ c.quick) × (c'.head ≡ c.head) × (c'.count ≡ c.count) × (c'.door ≡ c.door)
     → HoldsBy limit c by → HoldsBy limit c' by
 by_same limit c c' None s a = (record { quick_is = s.0 ∙ a.0.quick_is; head_is = s.1 ∙ a.0.head_is }, rw s.2 a.1)

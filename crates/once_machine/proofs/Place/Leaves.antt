@@ -1,4 +1,4 @@
--- The place at which a waiter leaves: its listing is taken out, and it passes its turn on where it had it.
+-- The place at which a waiter leaves: its listing is taken out, and it passes its turn on if it had it.
 use Rattle.std.proofs.Common.{◌≡◌, ◌≢◌, ◌≤◌, ◌+◌, ℕ, Bool, true, false, ⊎_elim, inr, List, [], ◌∷◌, Option, Some, None, cond, refl, sym, ap, ◌∙◌, subst, arith, ◌||◌}
 use Rattle.std.proofs.lemmas.Bool.Decides.{nat_tests}
 use Rattle.std.proofs.lemmas.Grind.{common_steps}
@@ -30,7 +30,7 @@ use Rattle.once_machine.proofs.Place.FitsAfter.{at_door, relisted_fits}
 use Rattle.once_machine.proofs.Place.Relisted.{take_back, without_lists}
 use Rattle.once_machine.proofs.Place.Outcomes.{goes_to}
 
--- who leaves owes an end
+-- a task that leaves owes an end
 leaves_owes : (K : Kind) (t : ℕ) (h : List Entry) (e : Ending) → MayLeave K t h e → Owes K t h e
 leaves_owes K t h e a = grind (arith, nat_tests, common_steps)
 
@@ -43,11 +43,11 @@ leaves_may K t h e a = grind (arith, nat_tests, common_steps)
 passed_owes : (K : Kind) (t : ℕ) (h : List Entry) (X : List ℕ) (e : Ending) → (last_call K t h).began ≡ Waiting → MayLeave K t h e → Owes K t (Pass t X ∷ h) e
 passed_owes K t h X e b a = grind (arith, nat_tests, common_steps)
 
--- in an empty cell a called listing passes its turn on
+-- in an empty cell a woken listing passes its turn on
 passes_in : (c : SharedState) (n : ℕ) → c.ready ≡ false → (c.quick || c.head) ≡ false → find_listing n c.listings ≡ Some None → is_passing c n ≡ true
 passes_in c n r q f = rw (f, r, q) refl
 
--- a truth that holds where the right is free
+-- a test that passes only if the right is free
 free_where : (ready taken called : Bool) → cond (is_free (sees_by ready taken)) called false ≡ true → (ready ≡ false) × (taken ≡ false)
 free_where false false called e = (refl, refl)
 free_where false true called e = absurd (false≢true e)
@@ -58,7 +58,7 @@ passes_when : (c : SharedState) (n : ℕ) → is_passing c n ≡ true → (c.rea
 passes_when c n e = free_where c.ready (c.quick || c.head) (was_called (find_listing n c.listings)) e
 
 module _ {K : Kind} {limit t w : ℕ} {k : Answer} {c : SharedState} {h : List Entry} (before : Before K limit t w k c h) where
-  -- who leaves and calls nobody
+  -- a task that leaves and wakes nobody
   leaves_plain : (q n : ℕ) (e : Ending) → AtPlace K limit t c h (AtLeave q n e)
       → CalledAt K (take_out n c.listings) h
       → Goes K limit t w (AtLeave q n e) c h (goes_to (record c { listings = take_out n c.listings }) k (AtCountOut e))
@@ -68,7 +68,7 @@ module _ {K : Kind} {limit t w : ℕ} {k : Answer} {c : SharedState} {h : List E
       (list_fits K c.listings (take_out n c.listings) h before.queue (λ v. asks_take v n c.listings) called) (leaves_owes K t h e a.0)
       (λ u m b j. same_shared refl refl refl refl refl (λ x. x)) refl (λ e. absurd (false≢true e)) (λ e. absurd (false≢true e)) (without_lists t (Some n) c c' h refl (λ x. x))
 
-  -- who leaves and calls the first
+  -- a task that leaves and wakes the first
   leaves_on : (q n v : ℕ) (e : Ending) → AtPlace K limit t c h (AtLeave q n e) → cell K h ≡ Empty → first_waker (take_out n c.listings) ≡ Some v
       → Goes K limit t w (AtLeave q n e) c h (record { shared = record c { listings = call_first (take_out n c.listings) }; step = UnderWay (AtCountOut e); kept = k; entries = Pass t (v ∷ []) ∷ [] })
   leaves_on q n v e a empty first =
@@ -102,7 +102,7 @@ module _ {K : Kind} {limit t w : ℕ} {k : Answer} {c : SharedState} {h : List E
         moments = λ b s. (s, b);
       }
 
-  -- whoever waits was called, where no listing is left that was not
+  -- each task that waits was woken, if no listing is left that was not
   others_called : (q n : ℕ) (e : Ending) → first_waker (take_out n c.listings) ≡ None → c.ready ≡ false
       → AroundList K t (Some n) c h → AtPlace K limit t c h (AtLeave q n e) → CalledAt K (take_out n c.listings) h
   others_called q n e first unset al a = λ _ u s.
@@ -112,11 +112,11 @@ module _ {K : Kind} {limit t w : ℕ} {k : Answer} {c : SharedState} {h : List E
       let same = find_take_other l.0 n c.listings m in
       (l.0, ⊎_elim (λ f. absurd (none_found l.0 (last_call K u h).listed (take_out n c.listings) first (same ∙ f))) (λ f. same ∙ f.0) (l.3 unset))
 
-  -- what a step at this place leaves, by the waker that is called and the list that is left
+  -- what a step at this place leaves, by the waker that is woken and the list that is left
   abbrev Left : ℕ → ℕ → Ending → Option ℕ → List (Listing ℕ) → Type 0
   Left q n e o xs = Goes K limit t w (AtLeave q n e) c h (record { shared = record c { listings = xs }; step = UnderWay (AtCountOut e); kept = k; entries = pass_entries t (option_to_list o) })
 
-  -- the turn goes to the first that was not called
+  -- the turn goes to the first that was not woken
   pass_goes : (o : Option ℕ) (q n : ℕ) (e : Ending) → first_waker (take_out n c.listings) ≡ o → is_passing c n ≡ true
       → AroundList K t (Some n) c h → AtPlace K limit t c h (AtLeave q n e)
       → Left q n e o (call_first (take_out n c.listings))
@@ -124,7 +124,7 @@ module _ {K : Kind} {limit t w : ℕ} {k : Answer} {c : SharedState} {h : List E
   pass_goes None q n e first on al a =
       subst (λ xs. Left q n e None xs) (sym (call_none (take_out n c.listings) first)) (leaves_plain q n e a (others_called q n e first (passes_when c n on).0 al a))
 
-  -- another listing was called in an empty cell, where this one has no turn
+  -- in an empty cell another listing was woken, if this one has no turn
   still_called : (n : ℕ) → is_passing c n ≡ false → CalledAt K (take_out n c.listings) h
   still_called n on = λ empty u s.
       let m = before.queue.called empty u s in

@@ -20,7 +20,7 @@ waits c t k q n = outcome_of c t k [] (next_rest (RestWait q n))
 abbrev pub claims : SharedState → ℕ → Answer → Option ℕ → Outcome
 claims c t k by = outcome_of c t k (Claim t ∷ []) (next_at (AtRun by))
 
--- a claim under the lock, by the ticket of who claims
+-- a claim under the lock, by the ticket of the task that claims
 abbrev pub claim_shared : SharedState → Option ℕ → SharedState
 claim_shared c n = record c { head = true; listings = list_without n c.listings }
 

@@ -152,7 +152,7 @@ module _ {K : Kind} {limit t w : ℕ} {k : Answer} {c : SharedState} {h : List E
       (entry_fits before.queue refl (λ n. let i = all_times n c.listings [] in omega arith) (λ x. absurd (empty_not_set v (sym x))))
       (ready_lists t None c c' (e ∷ h) cl.ready_is)
 
-  -- who waits was called, or the first is called now
+  -- each task that waits was woken, or the first is woken now
   free_called : (o : Option ℕ) (e : Ending) → first_waker c.listings ≡ o → c.ready ≡ false → AroundList K t None c h
       → Releasing K t h c e → CalledAt K (call_first c.listings) (Free t (option_to_list (first_waker c.listings)) ∷ h)
   free_called (Some v) e first r al a = λ _ u s. call_called v c.listings first
@@ -160,7 +160,7 @@ module _ {K : Kind} {limit t w : ℕ} {k : Answer} {c : SharedState} {h : List E
       let l = al.listed u (waited K (Free t (option_to_list (first_waker c.listings))) h (λ u is. releasing_awake K t u h c e a is) u s) in
       (l.0, rw (call_none c.listings first) (⊎_elim (λ f. absurd (none_found l.0 (last_call K u h).listed c.listings first f)) (λ f. f.0) (l.3 r)))
 
-  -- without it the first listing is called that was not
+  -- without it the first listing is woken that was not yet
   release_frees : (q : ℕ) (e : Ending) (c' : SharedState) → is_value e ≡ false
       → Cleared c c' (is_value e) (call_first c.listings) → AroundList K t None c h
       → AtPlace K limit t c h (AtRelease q e)

@@ -26,11 +26,11 @@ use Rattle.once_machine.proofs.Place.Builders.{Before, Goes, claims_so, ends_by,
 use Rattle.once_machine.proofs.Place.FitsAfter.{claim_fits, count_fits, headless, nobody, put_fits, put_keeps}
 use Rattle.once_machine.specs.Word.{is_zero}
 
--- a poll that did not claim, where the cell is set
+-- a poll that did not claim owes the value, if the cell is set
 pub owes_value : (K : Kind) (t : ℕ) (h : List Entry) → Entered K t h → is_set (cell K h) ≡ true → Owes K t h EndValue
 owes_value K t h e s = let v = value_of_set (cell K h) s in (e.poll.status_is, (v.0, v.1, inl e.poll.ran_is), e.poll.unpassed)
 
--- who holds, where a flag stands and t does not hold
+-- another task holds, if a flag stands and t does not hold
 pub other_holds : (K : Kind) (t : ℕ) (c : SharedState) (h : List Entry) → is_held (cell K h) ≡ (c.quick || c.head)
     → holds t (cell K h) ≡ false → (c.quick || c.head) ≡ true → OtherHolds K t h
 other_holds K t c h f n e =
@@ -55,18 +55,18 @@ busy c r n = grind (arith, nat_tests)
 idle : (c : SharedState) → is_zero (word_of c) ≡ true → (c.count ≡ 0) × (c.quick ≡ false) × (c.ready ≡ false)
 idle c n = grind (arith, nat_tests)
 
--- where the word is not NEW somebody acts or waits
+-- if the word is not NEW, some task acts or waits
 met_busy : {K : Kind} {limit t : ℕ} {c : SharedState} {h : List Entry} → SharedFits K limit c h
     → Around K t false false c h → holds t (cell K h) ≡ false → c.ready ≡ false → is_zero (word_of c) ≡ false
     → Met K t h ⊎ SomeoneWaits K h
 met_busy {K} {t} {c} {h} shared ar n r f = ⊎_elim (λ l. ar.acts refl l)
     (λ q. let o = other_holds K t c h shared.held_is n (rw q refl) in inl (since_now K t o.0 h o.1 o.2)) (busy c r f)
 
--- nobody holds under the lock where the count is 0
+-- nobody holds under the lock if the count is 0
 no_head : {K : Kind} {t : ℕ} {counted take : Bool} {c : SharedState} {h : List Entry} → Around K t counted take c h → c.count ≡ 0 → c.head ≡ false
 no_head {c} ar z = ⊎_elim (λ e. let l = ar.head_counts e in absurd (omega arith)) (λ e. e) (cases_Bool c.head)
 
--- where the cell is not set the door has the queue that was found
+-- if the cell is not set, the door has the queue that was found
 in_door : (c : SharedState) (q : ℕ) → c.ready ≡ false → (c.door ≡ Some q) ⊎ (c.ready ≡ true) → c.door ≡ Some q
 in_door c q r (inl d) = d
 in_door c q r (inr e) = absurd (false≢true (sym r ∙ e))
@@ -81,7 +81,7 @@ put_lists K t c q h d al = record {
   owner = λ r n o f. absurd (no_listing o f);
 }
 
--- Full is legal where the crowd has limit tasks
+-- Full is legal if the crowd has limit tasks
 crowd_legal : (K : Kind) (limit t : ℕ) (h : List Entry) → FreshIn K t h → is_set (cell K h) ≡ false → limit ≤ crowd K t h → IsLegal K limit (End t Full) h
 crowd_legal K limit t h a n le =
     (a.entered.poll.status_is, rw a.entered.poll.ran_is (a.began_is, a.entered.unclaimed, since_here K t (IsCrowded K limit t) h a.entered.poll.status_is le, n), inl a.entered.poll.unpassed)

@@ -16,11 +16,11 @@ use Rattle.once_machine.proofs.Rows.Owners.{lazy_answers_used_up_record, repeat_
 pub two_not_one : ◌≢◌ {A = ℕ} 2 1
 two_not_one e = omega arith
 
--- whoever waits has its waker in X
+-- if t waits, its waker is in X
 abbrev pub Covers : Kind → List ℕ → List Entry → ℕ → Type 0
 Covers K X h t = status K t h ≡ Waiting → member (last_call K t h).waker X ≡ true
 
--- such a list may be handed out, where all its wakers are open
+-- such a list may be handed out, if all its wakers are open
 pub may_hand : (K : Kind) (h : List Entry) → ((t : ℕ) → Covers K [] h t) → HandsOut K [] h
 may_hand K h c = record { once = refl; due = λ w d. subst (λ (v : ℕ). member v [] ≡ true) d.2 (c d.0 d.1); open_alone = λ w m. absurd (false≢true m) }
 

@@ -1,4 +1,4 @@
--- A row in which the turn is passed on, by hand: it is a run, and at every moment somebody was called where the cell is empty and a task waits.
+-- A row in which the turn is passed on, by hand: it is a run, and at every moment at which the cell is empty and a task waits, some task was woken.
 use Rattle.std.proofs.Common.{◌≡◌, ◌≢◌, ℕ, true, false, ◌==◌, inl, inr, List, [], ◌∷◌, refl, sym, subst, arith}
 use Rattle.std.proofs.lemmas.Bool.{eqb-true}
 use Rattle.once_machine.specs.Numbers.{member}
@@ -27,11 +27,11 @@ waiting = End 3 Pending ∷ Begin 3 8 ∷ End 2 Pending ∷ Begin 2 7 ∷ End 1 
 abbrev failing : List Entry
 failing = Ran 1 (RanError 9) ∷ Begin 1 5 ∷ waiting
 
--- it called the second, which is dropped
+-- it woke the second, which is dropped
 abbrev dropping : List Entry
 dropping = DropBegin 2 ∷ End 1 (Error 9) ∷ Free 1 (7 ∷ []) ∷ failing
 
--- the second called the third, which makes the value
+-- the second woke the third, which makes the value
 abbrev filling : List Entry
 filling = Ran 3 (RanValue 4) ∷ Claim 3 ∷ Begin 3 8 ∷ DropEnd 2 ∷ Pass 2 (8 ∷ []) ∷ dropping
 
@@ -64,7 +64,7 @@ waiting_run = (
 seven_open : (w : ℕ) → member w (7 ∷ []) ≡ true → IsOpen Once w failing
 seven_open w m = let same : 7 ≡ w = eqb-true 7 w (grind (arith, m)) in subst (λ v. IsOpen Once v failing) same (omega arith)
 
--- and it hands out one where one is due
+-- and it hands out one if one is due
 calls_one : CallsOne Once (7 ∷ []) failing
 calls_one = record { one = omega arith; due = λ w d e. let z : ⊥ = cc in z; open_alone = seven_open }
 
@@ -84,7 +84,7 @@ nobody_covers = by_three (λ t. Covers Once [] filling t)
 called_waiter_leaves_by_hand : IsRun Once 8 called_waiter_leaves_record
 called_waiter_leaves_by_hand = ((refl, (refl, refl), inl refl), ((refl, refl, refl, may_hand Once filling nobody_covers), filling_run))
 
--- where none of the three waits, and no other was made, nobody does
+-- if none of the three waits, and no other was made, nobody does
 nobody : (h : List Entry) → is_waiting (status Once 1 h) ≡ false → is_waiting (status Once 2 h) ≡ false → is_waiting (status Once 3 h) ≡ false
     → ((u : ℕ) → (1 == u) ≡ false → (2 == u) ≡ false → (3 == u) ≡ false → status Once u h ≡ Unmade) → (u : ℕ) → status Once u h ≡ Waiting → ⊥
 nobody h i j k d =
@@ -114,7 +114,7 @@ held_by t e = absurd (held_not_empty t e)
 failing_moments : AtEvery (SomebodyCalled Once) failing
 failing_moments = (held_by 1, (held_by 1, (held_by 1, (held_by 1, (held_by 1, (held_by 1, (held_by 1, (held_by 1, (held_by 1, alone_moments)))))))))
 
--- then the second was called, at last in its drop
+-- then the second counts as woken, at last in its drop
 dropping_moments : AtEvery (SomebodyCalled Once) dropping
 dropping_moments = (
   λ e u w. (2, (inr (record { under_way = refl; began = refl; unclaimed = refl; unpassed = refl }), refl)),

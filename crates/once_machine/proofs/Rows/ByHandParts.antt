@@ -73,7 +73,7 @@ late_parts_logged : AreLogged Once late_parts
 late_parts_logged =
     (calm, (calm, (calm, (calm, (calm, (calm, (calm, (calm, (refl, (calm, (calm, (refl, (calm, (calm, (calm, (refl, (refl, (refl, tt))))))))))))))))))
 
--- a called task is in its drop
+-- a woken task is in its drop
 abbrev leaving : List Entry
 leaving = newest_first (
     Made 1 ∷ Made 2 ∷ Made 3 ∷ Begin 1 5 ∷ Claim 1 ∷ Ran 1 RanPending ∷ End 1 Pending ∷ Begin 2 7 ∷ End 2 Pending ∷ Begin 3 8 ∷ End 3 Pending

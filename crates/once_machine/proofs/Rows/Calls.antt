@@ -1,4 +1,4 @@
--- Rows in which a holder fails and calls one of those who wait.
+-- Rows in which a holder fails and wakes one of the tasks that wait.
 use Rattle.std.proofs.Common.{◌≡◌, List, [], ◌∷◌, ◌++◌, Some, None, refl, arith}
 use Rattle.once_machine.specs.Record.{RanPending, RanValue, RanError, Pending, Value, Error, Once, Entry, Made, Begin, Claim, Ran, Free, Fill, End}
 use Rattle.once_machine.specs.Run.{IsRun}
@@ -7,7 +7,7 @@ use Rattle.once_machine.specs.Machine.{history_of, queue_of}
 use Rattle.once_machine.proofs.Input.Headline.{every_run}
 use Rattle.once_machine.proofs.Rows.Order.{newest_first, run}
 
--- the holder fails and calls the first who waits alone: that task makes the value, and its fill calls the other
+-- the holder fails and wakes the first waiter alone: that task makes the value, and its fill wakes the other
 abbrev failed_release_calls_one_inputs : List Input
 failed_release_calls_one_inputs =
     newest_first
@@ -31,7 +31,7 @@ failed_release_calls_one_door = refl
 failed_release_calls_one_run : IsRun Once 8 failed_release_calls_one_record
 failed_release_calls_one_run = every_run Once 8 failed_release_calls_one_inputs (omega arith)
 
--- who claims is no longer listed: its own failure calls the other task, and not itself
+-- a task that claims is no longer listed: its own failure wakes the other task, and not itself
 abbrev a_claim_takes_its_listing_out_inputs : List Input
 a_claim_takes_its_listing_out_inputs =
     newest_first
@@ -56,7 +56,7 @@ a_claim_takes_its_listing_out_door = refl
 a_claim_takes_its_listing_out_run : IsRun Once 8 a_claim_takes_its_listing_out_record
 a_claim_takes_its_listing_out_run = every_run Once 8 a_claim_takes_its_listing_out_inputs (omega arith)
 
--- a called task polls again while another holds: it is listed anew, after the others, and is called again in its turn
+-- a woken task polls again while another holds: it is listed anew, after the others, and is woken again in its turn
 abbrev called_waiter_lists_anew_inputs : List Input
 called_waiter_lists_anew_inputs =
     newest_first

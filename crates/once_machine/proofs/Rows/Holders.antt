@@ -8,7 +8,7 @@ use Rattle.once_machine.specs.Machine.{EnteredLine, PutLine, TakenLine, history_
 use Rattle.once_machine.proofs.Input.Headline.{every_run}
 use Rattle.once_machine.proofs.Rows.Order.{newest_first, run}
 
--- a holder fails and calls the next, which fails and calls the third: that makes the value
+-- a holder fails and wakes the next, which fails and wakes the third: that makes the value
 abbrev head_holder_fails_inputs : List Input
 head_holder_fails_inputs =
     newest_first
@@ -33,7 +33,7 @@ head_holder_fails_door = refl
 head_holder_fails_run : IsRun Once 8 head_holder_fails_record
 head_holder_fails_run = every_run Once 8 head_holder_fails_inputs (omega arith)
 
--- a holder is dropped and calls the next, which is dropped too and calls the third: that makes the value
+-- a holder is dropped and wakes the next, which is dropped too and wakes the third: that makes the value
 abbrev head_holder_dropped_inputs : List Input
 head_holder_dropped_inputs =
     newest_first

@@ -1,4 +1,4 @@
--- Rows in which a task that waits leaves: one that was called passes its turn on.
+-- Rows in which a task that waits leaves: one that was woken passes its turn on.
 use Rattle.std.proofs.Common.{◌≡◌, true, false, List, [], ◌∷◌, ◌++◌, Some, None, refl, arith}
 use Rattle.once_machine.specs.Record.{RanPending, RanValue, RanError, Pending, Value, Error, Memory, Once, Entry, Made, Begin, Claim, Ran, Free, Fill, Pass, End, DropBegin, DropEnd}
 use Rattle.once_machine.specs.Run.{IsRun}
@@ -8,7 +8,7 @@ use Rattle.once_machine.specs.Machine.{EnteredLine, PutLine, TakenLine, history_
 use Rattle.once_machine.proofs.Input.Headline.{every_run}
 use Rattle.once_machine.proofs.Rows.Order.{newest_first, run}
 
--- a called task is dropped, and calls the next: that task makes the value
+-- a woken task is dropped, and wakes the next: that task makes the value
 abbrev called_waiter_leaves_inputs : List Input
 called_waiter_leaves_inputs =
     newest_first
@@ -41,7 +41,7 @@ called_waiter_leaves_log = refl
 called_waiter_leaves_sound : IsSound (log_of Once 8 called_waiter_leaves_inputs)
 called_waiter_leaves_sound = (refl, (refl, (refl, (refl, (refl, (refl, (refl, (refl, (refl, (refl, refl, tt))))))))))
 
--- a task is refused memory, is called before it leaves, and calls the next
+-- a task is refused memory, is woken before it leaves, and wakes the next
 abbrev called_waiter_refused_inputs : List Input
 called_waiter_refused_inputs =
     newest_first
@@ -73,7 +73,7 @@ called_waiter_refused_log = refl
 called_waiter_refused_sound : IsSound (log_of Once 8 called_waiter_refused_inputs)
 called_waiter_refused_sound = (refl, (refl, (refl, (refl, (refl, (refl, (refl, (refl, refl, tt))))))))
 
--- a task that was not called is refused memory, and calls nobody: the failure calls the next
+-- a task that was not woken is refused memory, and wakes nobody: the failure wakes the next
 abbrev refused_and_not_called_inputs : List Input
 refused_and_not_called_inputs =
     newest_first
@@ -97,7 +97,7 @@ refused_and_not_called_door = refl
 refused_and_not_called_run : IsRun Once 8 refused_and_not_called_record
 refused_and_not_called_run = every_run Once 8 refused_and_not_called_inputs (omega arith)
 
--- a task that was not called is dropped and calls nobody; the called one is dropped and calls the next
+-- a task that was not woken is dropped and wakes nobody; the woken one is dropped and wakes the next
 abbrev only_a_called_waiter_passes_on_inputs : List Input
 only_a_called_waiter_passes_on_inputs =
     newest_first
@@ -122,7 +122,7 @@ only_a_called_waiter_passes_on_door = refl
 only_a_called_waiter_passes_on_run : IsRun Once 8 only_a_called_waiter_passes_on_record
 only_a_called_waiter_passes_on_run = every_run Once 8 only_a_called_waiter_passes_on_inputs (omega arith)
 
--- a called task is dropped while another holds, and calls nobody: the failure of that holder does
+-- a woken task is dropped while another holds, and wakes nobody: the failure of that holder wakes the next
 abbrev no_pass_while_a_head_holds_inputs : List Input
 no_pass_while_a_head_holds_inputs =
     newest_first
@@ -147,7 +147,7 @@ no_pass_while_a_head_holds_door = refl
 no_pass_while_a_head_holds_run : IsRun Once 8 no_pass_while_a_head_holds_record
 no_pass_while_a_head_holds_run = every_run Once 8 no_pass_while_a_head_holds_inputs (omega arith)
 
--- two called tasks are dropped in turn, and each calls the next
+-- two woken tasks are dropped in turn, and each wakes the next
 abbrev two_pass_on_in_turn_inputs : List Input
 two_pass_on_in_turn_inputs =
     newest_first
@@ -172,7 +172,7 @@ two_pass_on_in_turn_door = refl
 two_pass_on_in_turn_run : IsRun Once 8 two_pass_on_in_turn_record
 two_pass_on_in_turn_run = every_run Once 8 two_pass_on_in_turn_inputs (omega arith)
 
--- the called task is dropped, and nobody else waits: it calls nobody
+-- the woken task is dropped, and nobody else waits: it wakes nobody
 abbrev last_one_leaves_inputs : List Input
 last_one_leaves_inputs =
     newest_first

@@ -8,7 +8,7 @@ use Rattle.once_machine.specs.Machine.{EnteredLine, PutLine, TakenLine, history_
 use Rattle.once_machine.proofs.Input.Headline.{every_run}
 use Rattle.once_machine.proofs.Rows.Order.{newest_first, run, steps}
 
--- the holder and a waiting task are dropped at once: the waiting one is out of the list before the release, which calls the next
+-- the holder and a waiting task are dropped at once: the waiting one is out of the list before the release, which wakes the next
 abbrev two_drops_at_once_before_inputs : List Input
 two_drops_at_once_before_inputs =
     newest_first
@@ -30,7 +30,7 @@ two_drops_at_once_before_door = refl
 two_drops_at_once_before_run : IsRun Once 8 two_drops_at_once_before_record
 two_drops_at_once_before_run = every_run Once 8 two_drops_at_once_before_inputs (omega arith)
 
--- the same, and the release comes first: it calls the task in its drop, which calls the next
+-- the same, and the release comes first: it wakes the task in its drop, which wakes the next
 abbrev two_drops_at_once_after_inputs : List Input
 two_drops_at_once_after_inputs =
     newest_first
@@ -100,7 +100,7 @@ drop_not_over_log = refl
 drop_not_over_sound : IsSound (log_of Once 8 drop_not_over_inputs)
 drop_not_over_sound = (refl, (refl, (refl, (refl, (refl, refl, tt)))))
 
--- a task is refused memory, and the value is set before it leaves: it calls nobody, and takes the queue out
+-- a task is refused memory, and the value is set before it leaves: it wakes nobody, and takes the queue out
 abbrev refused_then_set_inputs : List Input
 refused_then_set_inputs =
     newest_first

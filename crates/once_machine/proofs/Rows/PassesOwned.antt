@@ -38,7 +38,7 @@ own_passes_then_take_door = refl
 own_passes_then_take_run : IsRun Once 8 own_passes_then_take_record
 own_passes_then_take_run = every_run Once 8 own_passes_then_take_inputs (omega arith)
 
--- the dropped holder of a lazy cell calls one of two tasks with one waker, which calls the other; then the cell is taken apart and replaced
+-- the dropped holder of a lazy cell wakes one of two tasks with one waker, which wakes the other; then the cell is taken apart and replaced
 abbrev lazy_pass_then_replace_inputs : List Input
 lazy_pass_then_replace_inputs =
     newest_first

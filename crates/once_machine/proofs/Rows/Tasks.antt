@@ -18,6 +18,6 @@ by_three P a b c d t = by_two P a b (λ u n m. ⊎_elim (λ e. subst P (eqb-true
 pub not_waiting : (K : Kind) (t : ℕ) (h : List Entry) (s : Status) → status K t h ≡ s → is_waiting s ≡ false → status K t h ≡ Waiting → ⊥
 not_waiting K t h s e n w = false≢true (sym n ∙ ap is_waiting (sym e ∙ w))
 
--- a task that neither waits nor is in a call was not called
+-- a task that neither waits nor is in a poll or a drop does not count as woken
 pub not_called : (K : Kind) (t : ℕ) (h : List Entry) (s : Status) → status K t h ≡ s → is_waiting s ≡ false → is_under_way s ≡ false → IsCalled K t h → ⊥
 not_called K t h s e n u k = ⊎_elim (not_waiting K t h s e n) (λ r. false≢true (sym u ∙ ap is_under_way (sym e) ∙ r.under_way)) k.0

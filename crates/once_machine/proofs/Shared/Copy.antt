@@ -28,7 +28,7 @@ module _ (P : World → Type 0) (w : World) (t : ℕ) (x : Task) (found : w.task
   abbrev At : Step ℕ ℕ → World
   At s = record w { tasks = put_task t (record x { step = s }) w.tasks }
 
-  -- where t stands at s already, what held still holds
+  -- if t stands at s already, what held still holds
   stays : (s : Step ℕ ℕ) → x.step ≡ s → P (At s)
   stays s at = subst (λ s. P (At s)) at (subst (λ (ts : ℕ → Option Task). P (record w { tasks = ts })) (sym (put_same t x w.tasks found)) holds)
 
@@ -38,13 +38,13 @@ module _ (P : World → Type 0) (w : World) (t : ℕ) (x : Task) (found : w.task
     refused_place (AtList q n v) at = leaves q v n at
     refused_place p at = stays (UnderWay p) at
 
-    -- so it does after the refusal, if it does where t leaves
+    -- so it does after the refusal, if it does when t leaves
     pub refused_keeps : (s : Step ℕ ℕ) → x.step ≡ s → P (At (refused_step s))
     refused_keeps (UnderWay p) at = refused_place p at
     refused_keeps (Resting r) at = stays (Resting r) at
     refused_keeps Finished at = stays Finished at
 
--- the invariant holds where t leaves
+-- the invariant holds when t leaves
 leaves_fit : (limit t : ℕ) (x : Task) (w : World) → Fits Once limit w → w.tasks t ≡ Some x → (q v : ℕ) (n : Option ℕ) → x.step ≡ UnderWay (AtList q n v)
     → Fits Once limit (record w { tasks = put_task t (record x { step = UnderWay (leave_place q n EndMemory) }) w.tasks })
 leaves_fit limit t x w f found q v n at =
@@ -62,7 +62,7 @@ pub refused_fits : (limit t : ℕ) (w : World) (o : Option Task) → w.tasks t �
 refused_fits limit t w None found f = f
 refused_fits limit t w (Some x) found f = refused_keeps (Fits Once limit) w t x found f (leaves_fit limit t x w f found) x.step refl
 
--- and what is known as no owner called
+-- and so does what is known if no owner called
 pub refused_unowned : (t : ℕ) (w : World) (o : Option Task) → w.tasks t ≡ o → Unowned w → Unowned (refuse_world w t o)
 refused_unowned t w None found c = c
 refused_unowned t w (Some x) found c = refused_keeps Unowned w t x found c

@@ -19,7 +19,7 @@ pub record StepKeeps (writes wrote : Bool) (c : SharedState) (o : Outcome) : Typ
   pub kept : IsUnnamed o.kept
   pub slot : SlotKeeps writes wrote o.step c o.shared
 
--- who leaves did not write the slot
+-- a task that leaves did not write the slot
 pub leave_unwritten : (q : ℕ) (n : Option ℕ) (e : Ending) → has_written_at (leave_place q n e) ≡ false
 leave_unwritten q n e = grind (arith, common_steps)
 

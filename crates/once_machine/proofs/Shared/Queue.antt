@@ -40,12 +40,12 @@ EntersFirst Finished = Unit {0}
 pub door_first : (c : SharedState) (q : ℕ) → OneQueue c → c.ready ≡ false → c.door ≡ Some q → q ≡ 1
 door_first c q f r d = ⊎_elim (λ a. absurd (none_some q (sym a.1 ∙ d))) (λ a. same_some q 1 (sym d ∙ a.1)) (f.first r)
 
--- who gives the right back enters the first
+-- a task that gives the right back enters the first
 pub release_first : (by : Option ℕ) (e : Ending) → HoldsByFirst by → EntersFirstAt (release_place by e)
 release_first None e f = tt
 release_first (Some q) e f = f
 
--- and so does who leaves
+-- and so does one that leaves
 pub leave_first : (q : ℕ) (n : Option ℕ) (e : Ending) → q ≡ 1 → EntersFirstAt (leave_place q n e)
 leave_first q None e f = tt
 leave_first q (Some n) e f = f
@@ -55,7 +55,7 @@ pub without_none : (n : Option ℕ) (xs : List (Listing ℕ)) → xs ≡ [] → 
 without_none None xs e = e
 without_none (Some n) xs e = ap (take_out n) e
 
--- and after one who leaves
+-- and after a task that leaves
 pub left_none : (p : Bool) (n : ℕ) (xs : List (Listing ℕ)) → xs ≡ [] → left_list p n xs ≡ []
 left_none true n xs e = ap (left_list true n) e
 left_none false n xs e = ap (left_list false n) e

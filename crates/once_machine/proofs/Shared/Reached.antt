@@ -15,7 +15,7 @@ moves_fit limit some [] = opening_fits Once limit
 moves_fit limit some (Given i ∷ before) = after_fits Once limit (world_by limit before) i some (moves_fit limit some before)
 moves_fit limit some (Refuse t ∷ before) = let w : World = world_by limit before in refused_fits limit t w (w.tasks t) refl (moves_fit limit some before)
 
--- and what is known as no owner called
+-- and so does what is known if no owner called
 moves_unowned : (limit : ℕ) → 0 < limit → (moves : List Move) → AreShared moves → Unowned (world_by limit moves)
 moves_unowned limit some [] s = opening_unowned
 moves_unowned limit some (Given i ∷ before) s = after_unowned limit (world_by limit before) i s.0 (moves_fit limit some before) (moves_unowned limit some before s.1)
@@ -25,7 +25,7 @@ moves_unowned limit some (Refuse t ∷ before) s = let w : World = world_by limi
 pub fits_of : (limit : ℕ) → 0 < limit → (w : World) → TasksReach limit w → Fits Once limit w
 fits_of limit some w r = subst (Fits Once limit) (sym r.2) (moves_fit limit some r.0)
 
--- and so does what is known as no owner called
+-- and so does what is known if no owner called
 pub unowned_of : (limit : ℕ) → 0 < limit → (w : World) → TasksReach limit w → Unowned w
 unowned_of limit some w r = subst Unowned (sym r.2) (moves_unowned limit some r.0 r.1)
 

@@ -27,7 +27,7 @@ pub record SlotKeeps (writes wrote : Bool) (s : Step ℕ ℕ) (c c' : SharedStat
   pub ready_by : c'.ready ≡ true → (c.ready ≡ true) ⊎ (wrote ≡ true)
   pub up : c.ready ≡ true → c'.ready ≡ true
 
--- one that leaves the ready flag alone, after which its task counts as one that wrote it exactly where it did before
+-- one that leaves the ready flag alone, after which its task counts as one that wrote it exactly if it did before
 pub slot_same : {wrote : Bool} {s : Step ℕ ℕ} {c c' : SharedState} → has_written s ≡ wrote → c'.ready ≡ c.ready → SlotKeeps false wrote s c c'
 slot_same is r = record {
   onward = λ e. inl (is ∙ e);
@@ -67,7 +67,7 @@ slot_kept false slot w w' t y e k f =
           a,
     )
 
--- who wrote it holds, by the place
+-- a task that wrote it holds, by the place
 writer_holds_at : (limit u : ℕ) (c : SharedState) (h : List Entry) (p : Place ℕ ℕ) → AtPlace Once limit u c h p → has_written_at p ≡ true → holds u (cell Once h) ≡ true
 writer_holds_at limit u c h p a i = grind (arith, common_steps, releasing_holds)
 
@@ -85,7 +85,7 @@ writer_holds limit u c h (Some x) a i = writer_holds_in limit u c h x.step a.ste
 pub one_holder : (t u : ℕ) (c : Cell) → holds t c ≡ true → holds u c ≡ true → t ≡ u
 one_holder t u c a b = let e = sym (held_by t c a) ∙ held_by u c b in cc
 
--- who is about to write it finds it not written
+-- a task that is about to write it finds it not written
 pub slot_free : {limit : ℕ} {w : World} (t : ℕ) {x : Task} {by : Option ℕ} {slot : Bool} → Fits Once limit w → SlotIs slot w → w.tasks t ≡ Some x → x.step ≡ UnderWay (AtPut by)
     → slot ≡ false
 slot_free {limit} {w} t {x} {by} {slot = true} f s found at =

@@ -45,7 +45,7 @@ pub record Unowned (w : World) : Type 0 where
   pub kept : (t : ℕ) → IsUnnamedIn (w.tasks t)
   pub plain : ArePlain w.history
 
--- who has a ticket is a waiter
+-- a task that has a ticket is a waiter
 ticket_inside : (s : Step ℕ ℕ) (n : ℕ) → ticket_of s ≡ Some n → is_inside s ≡ true
 ticket_inside s n e = grind (arith, common_steps)
 
@@ -54,7 +54,7 @@ nothing_found : (xs : List (Listing ℕ)) → ((n : ℕ) (o : Option ℕ) → fi
 nothing_found [] f = refl
 nothing_found (x ∷ xs) f = absurd (f x.ticket x.waker (rw (eqb_self x.ticket) refl))
 
--- nobody is listed where nobody is counted and the value is not set
+-- nobody is listed if nobody is counted and the value is not set
 unlisted : (limit : ℕ) (w : World) → Fits Once limit w → w.shared.ready ≡ false → w.shared.count ≡ 0 → w.shared.listings ≡ []
 unlisted limit w f r z = nothing_found w.shared.listings (λ n o e.
     let u = f.owned r n o e in

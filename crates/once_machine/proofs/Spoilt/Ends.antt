@@ -41,7 +41,7 @@ error_of_another_number = (
   λ r. four_not_five (sym r.0.1.0),
 )
 
--- a poll ends pending where nobody holds
+-- a poll ends pending while nobody holds
 pending_for_nobody : Spoilt Once 8 (newest_first (Made 1 ∷ Begin 1 7 ∷ End 1 Pending ∷ []))
 pending_for_nobody = (every_run Once 8 (newest_first (Make 1 ∷ Poll 1 7 ∷ [])) (omega arith), λ r. let e = r.0.1.2 in let z : ⊥ = cc in z)
 
@@ -80,7 +80,7 @@ full_with_room = (
   λ r. ⊎_elim (λ (c : 2 ≤ 1). let z : ⊥ = omega arith in z) (λ z. z) r.0.1.2,
 )
 
--- the place is full where the value is set
+-- the place is full while the value is set
 full_of_a_set_cell : Spoilt Once 1 (newest_first (Made 1 ∷ Made 2 ∷ Begin 1 5 ∷ Claim 1 ∷ Ran 1 (RanValue 4) ∷ Begin 2 7 ∷ Fill 1 4 [] ∷ End 2 Full ∷ []))
 full_of_a_set_cell = (every_run Once 1 (newest_first (Make 1 ∷ Make 2 ∷ Poll 1 5 ∷ steps 3 1 (RanValue 4) ++ Poll 2 7 ∷ steps 2 1 (RanValue 4))) (omega arith), λ r. false≢true (sym r.0.1.3))
 

@@ -1,4 +1,4 @@
--- Parts whose lines in the queue log are wrong, and queues that stand where they may not. Where a queue is wanted at the door from the start, a look is written that puts it.
+-- Parts whose lines in the queue log are wrong, and queues that stand where they may not. If a queue is wanted at the door from the start, a look is written that puts it.
 use Rattle.std.proofs.Common.{◌≡◌, true, List, [], ◌∷◌, ◌++◌, Some, refl, sym}
 use Rattle.std.proofs.lemmas.Bool.{false≢true}
 use Rattle.once_machine.specs.Record.{Begin, Claim, DropBegin, End, Entry, Fill, Free, GotValue, Look, Made, Once, OnceWith, Own, Pass, Pending, Ran, RanPending, RanValue, Take, Write}

@@ -13,7 +13,7 @@ other_queue e = let n : ◌≡◌ {A = ℕ} 1 2 = cc in omega arith
 entered_when_gone : SpoiltLog (newest_first (PutLine 1 ∷ EnteredLine 1 ∷ TakenLine 1 ∷ EnteredLine 1 ∷ []))
 entered_when_gone = ((refl, (refl, (refl, refl, tt))), λ s. none_some 1 s.0)
 
--- a queue is put where another stands
+-- a queue is put while another stands at the door
 put_beside_another : SpoiltLog (newest_first (PutLine 1 ∷ EnteredLine 1 ∷ PutLine 2 ∷ []))
 put_beside_another = ((refl, (refl, refl, tt)), λ s. none_some 1 (sym s.0))
 

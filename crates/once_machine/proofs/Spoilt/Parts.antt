@@ -33,7 +33,7 @@ made_twice a = let e = a.0 in let z : ⊥ = cc in z
 other_waker : AreAdded Once (newest_first (part (Make 1) (Made 1 ∷ []) ∷ part (Poll 1 7) (Begin 1 8 ∷ []) ∷ [])) → ⊥
 other_waker a = let e = a.0 in let n : ◌≡◌ {A = ℕ} 8 7 = cc in let z : ⊥ = omega arith in z
 
--- a Poll begins where a poll is under way
+-- a Poll begins a poll while one is under way
 poll_under_way : AreAdded Once (newest_first (polling ++ part (Poll 1 7) (Begin 1 7 ∷ []) ∷ [])) → ⊥
 poll_under_way a = let e = a.0 in let z : ⊥ = cc in z
 
@@ -61,7 +61,7 @@ step_makes a = a.0
 three_entries : AreAdded Once (newest_first (polling ++ part (Go 1 RanPending true) (End 1 Pending ∷ Ran 1 RanPending ∷ Claim 1 ∷ []) ∷ [])) → ⊥
 three_entries a = a.0
 
--- a step adds an entry where no call is under way
+-- a step adds an entry while no call is under way
 step_of_nobody : AreAdded Once (newest_first (part (Make 1) (Made 1 ∷ []) ∷ part (Go 1 RanPending true) (Claim 1 ∷ []) ∷ [])) → ⊥
 step_of_nobody a = let e = a.0 in let z : ⊥ = cc in z
 
@@ -86,14 +86,14 @@ sixteen_and_on s = false≢true (sym (s 1 (omega arith)))
 memory_wanted : WantsMemoryOnlyUngranted Once (newest_first (polling ++ idle 2 ++ part (Go 1 RanPending true) (End 1 Memory ∷ []) ∷ [])) → ⊥
 memory_wanted m = false≢true (sym (m 1 refl))
 
--- the same, where a step of an earlier call was given none
+-- the same, and a step of an earlier call was given none
 memory_refused_before : WantsMemoryOnlyUngranted Once (newest_first
     (polling ++ part (Go 1 RanPending false) (End 1 Pending ∷ []) ∷ part (Poll 1 7) (Begin 1 7 ∷ [])
     ∷ part (Go 1 RanPending true) (End 1 Memory ∷ []) ∷ []))
     → ⊥
 memory_refused_before m = false≢true (sym (m 1 refl))
 
--- the same, where a step of another task was given none
+-- the same, and a step of another task was given none
 memory_refused_to_another : WantsMemoryOnlyUngranted Once
     (newest_first (polling ++ part (Make 2) (Made 2 ∷ []) ∷ part (Poll 2 8) (Begin 2 8 ∷ [])
     ∷ part (Go 2 RanPending false) [] ∷ part (Go 1 RanPending true) (End 1 Memory ∷ []) ∷ []))

@@ -18,7 +18,7 @@ waiting =
 abbrev waiting_inputs : List Input
 waiting_inputs = Make 1 ∷ Make 2 ∷ Make 3 ∷ Make 4 ∷ Make 5 ∷ Poll 1 5 ∷ run 1 RanPending ++ Poll 2 7 ∷ run 2 RanPending ++ Poll 3 8 ∷ run 3 RanPending ++ Poll 4 9 ∷ run 4 RanPending
 
--- it fails and calls the second
+-- it fails and wakes the second
 abbrev called : List Entry
 called = waiting ++ Begin 1 5 ∷ Ran 1 (RanError 6) ∷ Free 1 (7 ∷ []) ∷ End 1 (Error 6) ∷ []
 
@@ -67,7 +67,7 @@ pass_at_rest = (every_run Once 8 (newest_first called_inputs) (omega arith), λ 
 pass_while_held : Spoilt Once 8 (newest_first (called ++ Begin 5 4 ∷ Claim 5 ∷ Ran 5 RanPending ∷ End 5 Pending ∷ DropBegin 2 ∷ Pass 2 (8 ∷ []) ∷ []))
 pass_while_held = (every_run Once 8 (newest_first (called_inputs ++ Poll 5 4 ∷ run 5 RanPending ++ Drop 2 ∷ [])) (omega arith), λ r. held_not_empty 5 r.0.0)
 
--- a task is dropped and passes its turn on where the value is set, to a waker that is still open: its task waits with a newer one
+-- a task is dropped and passes its turn on while the value is set, to a waker that is still open: its task waits with a newer one
 pass_when_set : Spoilt Once 8 (newest_first (waiting ++ Begin 3 6 ∷ End 3 Pending ∷ Begin 1 5 ∷ Ran 1 (RanValue 4) ∷ Fill 1 4 (7 ∷ 9 ∷ 6 ∷ []) ∷ End 1 (Value 4) ∷ DropBegin 2 ∷ Pass 2 (8 ∷ []) ∷ []))
 pass_when_set = (every_run Once 8 (newest_first (waiting_inputs ++ Poll 3 6 ∷ run 3 RanPending ++ Poll 1 5 ∷ run 1 (RanValue 4) ++ Drop 2 ∷ [])) (omega arith), λ r. empty_not_set 4 (sym r.0.0))
 

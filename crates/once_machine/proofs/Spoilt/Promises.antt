@@ -12,13 +12,13 @@ four_not_five e = omega arith
 five_not_four : ◌≡◌ {A = ℕ} 5 4 → ⊥
 five_not_four e = omega arith
 
--- the value is set, and the task that waits was not called
+-- the value is set, and the task that waits was not woken
 forgotten : NobodyForgotten Once (newest_first (Made 1 ∷ Made 2 ∷ Begin 1 5 ∷ Claim 1 ∷ Ran 1 RanPending
     ∷ End 1 Pending ∷ Begin 2 7 ∷ End 2 Pending ∷ Begin 1 5 ∷ Ran 1 (RanValue 4) ∷ Fill 1 4 [] ∷ []))
     → ⊥
 forgotten n = n refl 7 (2, refl, refl, refl)
 
--- a failure called the task, it waits again with the same waker, and is forgotten as the value is set
+-- a failure woke the task, which waits again with the same waker and is forgotten as the value is set
 forgotten_later : NobodyForgotten Once (newest_first (Made 1 ∷ Made 2 ∷ Made 3 ∷ Begin 1 5 ∷ Claim 1
     ∷ Ran 1 RanPending ∷ End 1 Pending ∷ Begin 2 7 ∷ End 2 Pending ∷ Begin 3 8 ∷ Begin 1 5 ∷ Ran 1 (RanError 9)
     ∷ Free 1 (7 ∷ []) ∷ Claim 3 ∷ Ran 3 RanPending ∷ End 3 Pending ∷ Begin 2 7 ∷ End 2 Pending ∷ Begin 3 8

@@ -11,7 +11,7 @@ use Rattle.once_machine.proofs.Spoilt.Records.{Spoilt}
 memory_where_set : Spoilt (OnceWith 4) 8 (newest_first (Made 1 ∷ Made 2 ∷ Begin 1 5 ∷ Begin 2 7 ∷ End 2 Memory ∷ []))
 memory_where_set = (every_run (OnceWith 4) 8 (newest_first (Make 1 ∷ Make 2 ∷ Poll 1 5 ∷ Poll 2 7 ∷ [])) (omega arith), λ r. false≢true (sym r.0.1.1.0))
 
--- memory is refused to a task that waited, where another is in a poll and nobody holds
+-- memory is refused to a task that waited, while another is in a poll and nobody holds
 memory_for_a_woken_task : Spoilt Once 8 (newest_first (Made 1 ∷ Made 2 ∷ Made 3 ∷ Begin 1 5 ∷ Claim 1
     ∷ Ran 1 RanPending ∷ End 1 Pending ∷ Begin 2 7 ∷ End 2 Pending ∷ DropBegin 1 ∷ Free 1 (7 ∷ []) ∷ DropEnd 1
     ∷ Begin 3 8 ∷ Begin 2 7 ∷ End 2 Memory ∷ []))

@@ -1,4 +1,4 @@
--- Records with one thing wrong, about who holds and which value is set: none is a run.
+-- Records with one thing wrong, about which task holds and which value is set: none is a run.
 use Rattle.std.proofs.Common.{◌≡◌, ℕ, true, [], ◌∷◌, ◌++◌, Option, Some, None, refl, sym, arith}
 use Rattle.std.proofs.lemmas.Bool.{false≢true}
 use Rattle.once_machine.specs.Record.{Answer, Begin, Claim, DropBegin, DropEnd, End, Fill, Free, Got, GotAnswers, GotNone, GotValue, Lazy, Look, Made, Once}
@@ -35,7 +35,7 @@ four_not_none e = cc
 two_holders : Spoilt Once 8 (newest_first (Made 1 ∷ Made 2 ∷ Begin 1 5 ∷ Claim 1 ∷ Begin 2 7 ∷ Claim 2 ∷ []))
 two_holders = (every_run Once 8 (newest_first (Make 1 ∷ Make 2 ∷ Poll 1 5 ∷ steps 2 1 RanPending ++ Poll 2 7 ∷ [])) (omega arith), λ r. held_not_empty 1 r.0.0)
 
--- a task claims the right where the value is set
+-- a task claims the right while the value is set
 claim_of_a_set_cell : Spoilt (OnceWith 4) 8 (newest_first (Made 1 ∷ Begin 1 5 ∷ Claim 1 ∷ []))
 claim_of_a_set_cell = (every_run (OnceWith 4) 8 (newest_first (Make 1 ∷ Poll 1 5 ∷ [])) (omega arith), λ r. empty_not_set 4 (sym r.0.0))
 

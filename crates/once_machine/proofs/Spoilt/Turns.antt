@@ -1,4 +1,4 @@
--- Records in which nobody is called, though the cell is empty and a task waits. Some are runs: that somebody is called is more than that each entry may come.
+-- Records in which no task counts as woken, though the cell is empty and a task waits. Some are runs: that some task was woken is more than that each entry may come.
 use Rattle.std.proofs.Common.{◌≡◌, ◌≢◌, ℕ, true, false, inl, inr, List, [], ◌∷◌, ◌++◌, refl, sym, subst, arith}
 use Rattle.std.proofs.lemmas.Bool.{false≢true, eqb-true}
 use Rattle.once_machine.specs.Numbers.{member}
@@ -20,14 +20,14 @@ waiting = Made 1 ∷ Made 2 ∷ Made 3 ∷ Begin 1 5 ∷ Claim 1 ∷ Ran 1 RanPe
 abbrev waiting_inputs : List Input
 waiting_inputs = Make 1 ∷ Make 2 ∷ Make 3 ∷ Poll 1 5 ∷ run 1 RanPending ++ Poll 2 7 ∷ run 2 RanPending ++ Poll 3 8 ∷ run 3 RanPending
 
--- it fails and calls the second
+-- it fails and wakes the second
 abbrev called : List Entry
 called = waiting ++ Begin 1 5 ∷ Ran 1 (RanError 9) ∷ Free 1 (7 ∷ []) ∷ End 1 (Error 9) ∷ []
 
 abbrev called_inputs : List Input
 called_inputs = waiting_inputs ++ Poll 1 5 ∷ run 1 (RanError 9)
 
--- the called task is dropped, and nobody else is called
+-- the woken task is dropped, and nobody else is woken
 abbrev lost : List Entry
 lost = newest_first (called ++ DropBegin 2 ∷ DropEnd 2 ∷ [])
 
@@ -35,7 +35,7 @@ lost = newest_first (called ++ DropBegin 2 ∷ DropEnd 2 ∷ [])
 lost_run : IsRun Once 8 lost
 lost_run = ((refl, λ e. held_not_empty 2 (sym e)), (tt, every_run Once 8 (newest_first called_inputs) (omega arith)))
 
--- the third waits and was not called, and no other waits or is in a call
+-- the third waits and was not woken, and no other waits or is in a poll or a drop
 lost_uncalled : (t : ℕ) → IsCalled Once t lost → ⊥
 lost_uncalled = by_three (λ t. IsCalled Once t lost → ⊥) (not_called Once 1 lost Gone refl refl refl) (not_called Once 2 lost Gone refl refl refl) (λ k. false≢true k.1)
     (λ t a b c. not_called Once t lost Unmade (rw (a, b, c) refl) refl refl)
@@ -44,7 +44,7 @@ lost_uncalled = by_three (λ t. IsCalled Once t lost → ⊥) (not_called Once 1
 lost_nobody : AtEvery (SomebodyCalled Once) lost → ⊥
 lost_nobody p = let c = p.0 refl 3 refl in lost_uncalled c.0 c.1
 
--- the same where no call is under way
+-- so is the one for when no poll or drop is under way
 lost_idle : (t : ℕ) → is_under_way (status Once t lost) ≡ false
 lost_idle = by_three (λ t. is_under_way (status Once t lost) ≡ false) refl refl refl (λ t a b c. rw (a, b, c) refl)
 
@@ -56,7 +56,7 @@ lost_waits_uncalled = by_three (λ t. (status Once t lost ≡ Waiting) × (membe
 lost_waiter : WaiterCalled Once lost → ⊥
 lost_waiter p = let c = p lost_idle refl 3 refl in lost_waits_uncalled c.0 (c.1, c.2)
 
--- the called task is refused memory, and nobody else is called
+-- the woken task is refused memory, and nobody else is woken
 abbrev lost_for_memory : List Entry
 lost_for_memory = newest_first (waiting ++ Begin 2 6 ∷ Begin 1 5 ∷ Ran 1 (RanError 9) ∷ Free 1 (7 ∷ []) ∷ End 1 (Error 9) ∷ End 2 Memory ∷ [])
 

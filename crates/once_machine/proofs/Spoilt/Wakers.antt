@@ -17,7 +17,7 @@ two_in_one l = omega arith
 waker_of_nobody : Spoilt Once 8 (newest_first (Made 1 ∷ Begin 1 7 ∷ Claim 1 ∷ Ran 1 (RanValue 4) ∷ Fill 1 4 (7 ∷ []) ∷ []))
 waker_of_nobody = (every_run Once 8 (newest_first (Make 1 ∷ Poll 1 7 ∷ steps 3 1 (RanValue 4))) (omega arith), λ r. less_than_itself 0 (r.0.3.open_alone 7 refl))
 
--- a failure calls nobody, and a task waits
+-- a failure wakes nobody, and a task waits
 waker_forgotten : Spoilt Once 8 (newest_first (Made 1 ∷ Made 2 ∷ Begin 1 5 ∷ Claim 1 ∷ Ran 1 RanPending ∷ End 1 Pending ∷ Begin 2 7 ∷ End 2 Pending ∷ Begin 1 5 ∷ Ran 1 (RanError 9) ∷ Free 1 [] ∷ []))
 waker_forgotten = (
   every_run Once 8 (newest_first (Make 1 ∷ Make 2 ∷ Poll 1 5 ∷ steps 3 1 RanPending ++ Poll 2 7
@@ -37,7 +37,7 @@ newer_waker_forgotten = (
   λ r. false≢true (r.0.3.due 8 (2, refl, refl, refl)),
 )
 
--- two tasks wait, and a failure calls both
+-- two tasks wait, and a failure wakes both
 two_called : Spoilt Once 8 (newest_first (Made 1 ∷ Made 2 ∷ Made 3 ∷ Begin 1 5 ∷ Claim 1 ∷ Ran 1 RanPending
     ∷ End 1 Pending ∷ Begin 2 7 ∷ End 2 Pending ∷ Begin 3 8 ∷ End 3 Pending ∷ Begin 1 5 ∷ Ran 1 (RanError 9)
     ∷ Free 1 (7 ∷ 8 ∷ []) ∷ []))
@@ -81,7 +81,7 @@ waker_in_two_releases = (
   λ r. less_than_itself 1 (r.0.3.open_alone 7 refl),
 )
 
--- a second failure calls a task that the first called
+-- a second failure wakes a task that the first woke
 called_twice : Spoilt Once 8 (newest_first (Made 1 ∷ Made 2 ∷ Made 3 ∷ Begin 1 5 ∷ Claim 1 ∷ Ran 1 RanPending
     ∷ End 1 Pending ∷ Begin 2 7 ∷ End 2 Pending ∷ Begin 1 5 ∷ Ran 1 (RanError 9) ∷ Free 1 (7 ∷ []) ∷ End 1 (Error 9)
     ∷ Begin 3 8 ∷ Claim 3 ∷ Ran 3 (RanError 6) ∷ Free 3 (7 ∷ []) ∷ []))

@@ -1,4 +1,4 @@
--- What held of a log held of each beginning of it: whoever saw a part of the log knows that too.
+-- What held of a log held of each beginning of it: a task that saw a part of the log knows that too.
 use Rattle.std.proofs.Common.{ℕ, List, [], ◌∷◌, ◌++◌, reverse, subst}
 use Rattle.std.proofs.lemmas.List.{reverse-append}
 use Rattle.once_machine.specs.Record.{Entry, Kind}

@@ -44,11 +44,11 @@ module _ (limit n put : ℕ) (slot : Bool) (pages : List Page) (log : List Entry
   pub one_task_holds_one : (t u : ℕ) → log ≡ seen ++ late → status Once t h ≡ Holding → status Once u h ≡ Holding → t ≡ u
   one_task_holds_one t u is = one_holder Once limit t u h (seen_run is)
 
-  -- who rests holding holds
+  -- a task that rests holding is the holder
   pub one_task_holds_rests : (t : ℕ) → log ≡ seen ++ late → status Once t h ≡ Holding → cell Once h ≡ Held t
   one_task_holds_rests t is = holding_holds Once limit t h (seen_run is)
 
-  -- who claims finds the cell empty, and holds
+  -- a task that claims finds the cell empty, and then holds
   pub one_task_holds_claims : (t : ℕ) → log ≡ seen ++ Claim t ∷ late → (cell Once h ≡ Empty) × (cell Once (Claim t ∷ h) ≡ Held t)
   one_task_holds_claims t is = ((next_run (Claim t) is).0.0, refl)
 
@@ -72,7 +72,7 @@ module _ (limit n put : ℕ) (slot : Bool) (pages : List Page) (log : List Entry
   pub error_is_ones_own_empty : (t e : ℕ) → log ≡ seen ++ End t (Error e) ∷ late → Since t (HasFreed Once t) h
   error_is_ones_own_empty t e is = error_empties Once limit t e h (next_run (End t (Error e)) is)
 
-  -- who was dropped does not hold
+  -- a task that was dropped does not hold
   pub dropped_holder_frees_ended : (t : ℕ) → log ≡ seen ++ DropEnd t ∷ late → cell Once (DropEnd t ∷ h) ≢ Held t
   dropped_holder_frees_ended t is = (next_run (DropEnd t) is).0.1
 
@@ -86,15 +86,15 @@ module _ (limit n put : ℕ) (slot : Bool) (pages : List Page) (log : List Entry
       → (last_call Once t h).set_then ≡ true → ((last_call Once t h).ran ≡ None) × ((v : ℕ) × (cell Once h ≡ SetTo v) × (r ≡ Value v))
   set_value_is_answered_at_once t r is = set_answered Once limit t r h (next_run (End t r) is)
 
-  -- while the value is set nobody who waits is forgotten
+  -- while the value is set no waiting task is forgotten
   pub set_value_calls_all : log ≡ seen ++ late → AtEvery (NobodyForgotten Once) h
   set_value_calls_all is = nobody_forgotten Once limit h (seen_run is)
 
-  -- who wants memory met another
+  -- a poll that ended for want of memory met another task
   pub refusals_need_others_memory : (t : ℕ) → log ≡ seen ++ End t Memory ∷ late → Since t (OtherActs Once t) h
   refusals_need_others_memory t is = memory_met Once limit t h (next_run (End t Memory) is)
 
-  -- who met no other, and found the cell full, found as many waiting
+  -- a poll that met no other task and ended as full found at least limit others waiting
   pub refusals_need_others_full : (t : ℕ) → log ≡ seen ++ End t Full ∷ late → (Since t (OtherActs Once t) h → ⊥) → Since t (AreWaiting Once limit t) h
   refusals_need_others_full t is = full_waits Once limit t h (next_run (End t Full) is)
 
@@ -102,11 +102,11 @@ module _ (limit n put : ℕ) (slot : Bool) (pages : List Page) (log : List Entry
   pub failed_release_calls_one_at_most_one : (t : ℕ) (X : List ℕ) → log ≡ seen ++ Free t X ∷ late → length X ≤ 1
   failed_release_calls_one_at_most_one t X is = at_most_one Once limit t X h (next_run (Free t X) is)
 
-  -- and one that is open, where one is due
+  -- and one that is open, if one is due
   pub failed_release_calls_one_somebody : (t d : ℕ) (X : List ℕ) → log ≡ seen ++ Free t X ∷ late → IsDue Once d h → (w : ℕ) × (X ≡ w ∷ []) × IsOpen Once w h
   failed_release_calls_one_somebody t d X is = one_called Once limit t d X h (next_run (Free t X) is)
 
-  -- who passes its turn on finds the cell empty, and hands one waker out that is open
+  -- a task that passes its turn on finds the cell empty, and hands one waker out that is open
   pub leaver_passes_its_turn_on_to_one : (t : ℕ) (X : List ℕ) → log ≡ seen ++ Pass t X ∷ late → (cell Once h ≡ Empty) × ((w : ℕ) × (X ≡ w ∷ []) × IsOpen Once w h)
   leaver_passes_its_turn_on_to_one t X is = passed_to_one Once limit t X h (next_run (Pass t X) is)
 

@@ -1,4 +1,4 @@
--- A listing that was not called is that of the task whose number is its waker. So each task is listed once, and a fill hands out all who were not called.
+-- A listing that was not woken is that of the task whose number is its waker. So each task is listed once, and a fill hands out all that were not woken.
 use Rattle.std.proofs.Common.{◌≡◌, ◌<◌, ℕ, Bool, true, false, ⊎_elim, List, [], Some, None, slice_get, refl, sym, ap, ◌∙◌, subst}
 use Rattle.once_machine.specs.Numbers.{is_distinct}
 use Rattle.once_machine.specs.Word.{Flags, flags_of}
@@ -15,7 +15,7 @@ use Rattle.once_machine.proofs.Moment.Pages.{queue_of}
 use Rattle.once_machine.proofs.Shared.Reached.{fits_of, unowned_of}
 use Rattle.once_machine.proofs.Told.Wakers.{own_wakers}
 
--- a called listing has no waker
+-- a woken listing has no waker
 called_not : (n v : ℕ) (xs : List (Listing ℕ)) → find_listing n xs ≡ Some None → find_listing n xs ≡ Some (Some v) → ⊥
 called_not n v xs a b = cc
 

@@ -1,4 +1,4 @@
--- The log is a run of the cell, at every moment somebody was called if somebody had to be, and what follows of these.
+-- The log is a run of the cell, at every moment somebody was woken if somebody had to be, and what follows of these.
 use Rattle.std.proofs.Common.{◌<◌, ℕ, Bool, List, reverse, subst}
 use Rattle.once_machine.specs.Record.{Entry, Once}
 use Rattle.once_machine.specs.Run.{AtEvery, IsRun}
@@ -15,11 +15,11 @@ module _ (limit n put : ℕ) (slot : Bool) (pages : List Page) (log : List Entry
   pub log_is_run : IsRun Once limit (reverse log)
   log_is_run = subst (IsRun Once limit) book.1.log_is (fits_of limit some book.0 book.1.reached).run
 
-  -- at each beginning of it somebody was called, where some task waits for an empty cell
+  -- at each beginning of it some task was woken, if some task waits for an empty cell
   pub somebody_called : AtEvery (SomebodyCalled Once) (reverse log)
   somebody_called = subst (AtEvery (SomebodyCalled Once)) book.1.log_is (fits_of limit some book.0 book.1.reached).moments
 
-  -- where besides no call is under way, some task that waits was called
+  -- if besides no poll or drop is under way, some task that waits was woken
   pub some_waiter_called : AtEvery (WaiterCalled Once) (reverse log)
   some_waiter_called = waiter_called Once (reverse log) somebody_called
 

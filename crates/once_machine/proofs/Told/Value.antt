@@ -51,7 +51,7 @@ WasFilled v log = (t : ℕ) × (X : List ℕ) × StandsIn (Fill t v X) log
 filled_on : (v : ℕ) (d : Entry) (h : List Entry) → WasFilled v h → WasFilled v (d ∷ h)
 filled_on v d h r = (r.0, r.1, stands_on (Fill r.0 v r.1) d h r.2)
 
--- where a value is set it was filled in
+-- if a value is set, it was filled in
 pub filled : (h : List Entry) (v : ℕ) → ArePlain h → cell Once h ≡ SetTo v → WasFilled v h
 filled [] v u s = absurd (empty_set v s)
 filled (Claim t ∷ h) v u s = absurd (held_set t v s)
@@ -78,30 +78,30 @@ module _ (limit n put : ℕ) (slot : Bool) (pages : List Page) (log : List Entry
   pub ready_is_set : (flags_of n).ready ≡ is_set (cell Once (reverse log))
   ready_is_set = ap (λ (f : Flags). f.ready) book.1.word_is ∙ (fits_of limit some book.0 book.1.reached).shared.ready_is ∙ ap (λ h. is_set (cell Once h)) book.1.log_is
 
-  -- where the word is ready the value 0 is set
+  -- if the word is ready, the value 0 is set
   pub ready_cell : (flags_of n).ready ≡ true → cell Once (reverse log) ≡ SetTo 0
   ready_cell r =
       let s = set_to (cell Once (reverse log)) (sym ready_is_set ∙ r) in
       let same : book.0.shared.value ≡ s.0 = (fits_of limit some book.0 book.1.reached).shared.value_is s.0 (ap (cell Once) book.1.log_is ∙ s.1) in
       s.1 ∙ ap SetTo (sym same ∙ (unowned_of limit some book.0 book.1.reached).value)
 
-  -- where it is not ready the cell is not set
+  -- if it is not ready, the cell is not set
   pub unready_cell : (flags_of n).ready ≡ false → is_set (cell Once (reverse log)) ≡ false
   unready_cell r = sym ready_is_set ∙ r
 
-  -- where it is ready a Fill stands in the log
+  -- if it is ready, a Fill stands in the log
   pub ready_filled : (flags_of n).ready ≡ true → WasFilled 0 log
   ready_filled r =
       let f = filled (reverse log) 0 (log_is_plain limit n put slot pages log some book) (ready_cell r) in
       (f.0, f.1, stands_back (Fill f.0 0 f.1) log f.2)
 
-  -- where a Fill stands in the log the word is ready
+  -- if a Fill stands in the log, the word is ready
   pub filled_ready : (t v : ℕ) (X : List ℕ) → StandsIn (Fill t v X) log → (flags_of n).ready ≡ true
   filled_ready t v X s =
       let back : StandsIn (Fill t v X) (reverse log) = stands_back (Fill t v X) (reverse log) (subst (StandsIn (Fill t v X)) (sym (reverse-reverse log)) s) in
       ready_is_set ∙ ap is_set (stays_filled back.0 back.1 t v X (log_is_plain limit n put slot pages log some book) (is_one_value limit n put slot pages log some book) back.2)
 
-  -- where the word is ready the slot is written
+  -- if the word is ready, the slot is written
   pub ready_written : (flags_of n).ready ≡ true → slot ≡ true
   ready_written r = book.1.slot_is.1 (inl (ap (λ (f : Flags). f.ready) (sym book.1.word_is) ∙ r))
 

@@ -1,4 +1,4 @@
--- The waker by which a task is listed has its number: a look need not compare wakers, but see whether the own listing was called.
+-- The waker by which a task is listed has its number: a look need not compare wakers, but see whether the own listing was woken.
 use Rattle.std.proofs.Common.{◌≡◌, ◌<◌, ℕ, suc, Bool, true, false, cond, ◌==◌, ◌⊎◌, inl, inr, ⊎_elim, List, [], ◌∷◌, Option, Some, None, slice_get, refl, sym, ap, ◌∙◌, subst, arith}
 use Rattle.std.proofs.lemmas.Bool.Decides.{nat_tests}
 use Rattle.std.proofs.lemmas.Grind.{common_steps}
@@ -25,7 +25,7 @@ pub record OwnBy (t : ℕ) (s : Status) (l : LastCall) : Type 0 where
   pub waits : s ≡ Waiting → l.listed ≡ t
   pub began : l.began ≡ Waiting → l.listed ≡ t
 
--- who ended a poll Pending does not poll
+-- a task that ended a poll Pending does not poll
 pending_polls : (t : ℕ) (c : Cell) → pending_status t c ≡ Polling → ⊥
 pending_polls t Empty e = grind (arith, e)
 pending_polls t (SetTo v) e = grind (arith, e)
@@ -60,13 +60,13 @@ pub own_wakers : (limit t : ℕ) (h : List Entry) → IsRun Once limit h → Are
 own_wakers limit t [] r p = record { polls = λ e. grind (arith, e); waits = λ e. grind (arith, e); began = λ e. grind (arith, e) }
 own_wakers limit t (e ∷ h) r p = own_by limit t h (own_wakers limit t h r.1 p.1) e (is_of t e) refl r.0 p.0
 
--- a listing that has the own waker, or none, has the own one where it was not called
+-- a listing that has the own waker, or none, has the own one if it was not woken
 own_uncalled : (t k : ℕ) (o : Option (Option ℕ)) → k ≡ t → (o ≡ Some (Some t)) ⊎ (o ≡ Some None) → is_waker k o ≡ is_some (option_flatten o)
 own_uncalled t k o e f = ⊎_elim
     (λ x. ap (is_waker k) x ∙ (ap (λ v. t == v) e ∙ eqb_self t) ∙ sym (ap (λ v. is_some (option_flatten v)) x))
     (λ x. ap (is_waker k) x ∙ sym (ap (λ v. is_some (option_flatten v)) x)) f
 
--- a look by a task before the value is set: its own listing has its waker where it was not called
+-- a look by a task before the value is set: its own listing has its waker if it was not woken
 pub look_own : (limit n put : ℕ) (slot : Bool) (pages : List Page) (log : List Entry) (t : ℕ) (x : Task) (some : 0 < limit) (book : IsBook limit n put slot pages log)
     → slice_get pages (suc (suc t)) ≡ Some (At x) → (head : Bool) (xs : List (Listing ℕ)) → slice_get pages 1 ≡ Some (Queue head xs)
     → (q : ℕ) (k : Option ℕ) → x.step ≡ UnderWay (AtLook q k) → (flags_of n).ready ≡ false

@@ -1,4 +1,4 @@
--- The waker is other than each that came before, where this is denied.
+-- The waker is other than each that came before, if `repeats` denies that it is the same as one.
 use Rattle.std.proofs.Common.{arith}
 use Rattle.once_machine.proofs.waiters.repeats.Goals as goal
 

@@ -1,4 +1,4 @@
--- Where the value is set the call is over.
+-- If the value is set, the call is over.
 use Rattle.std.proofs.Common.{rules}
 use Rattle.once_machine.proofs.step.Step.start.Goals as goal
 

@@ -1,4 +1,4 @@
--- Who was handed out is called.
+-- The wakers that were handed out are woken.
 use Rattle.std.proofs.Common.{rules}
 use Rattle.once_machine.proofs.step.advance.wake.Goals as goal
 

@@ -1,4 +1,4 @@
--- Listings that are apart are apart still when one was called.
+-- Listings that are apart are apart still when one was woken.
 use mathlib.Core.Logic.{∥∥₁_map}
 use Rattle.once_machine.proofs.Listing.AllOther.{apart_first}
 use Rattle.once_machine.specs.Slots.{listings_in}

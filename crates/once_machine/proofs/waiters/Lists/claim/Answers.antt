@@ -1,4 +1,4 @@
--- Where a task holds nothing is claimed, and a claim takes the own listing out.
+-- While a task holds, nothing is claimed; a claim takes the own listing out.
 use Rattle.std.proofs.Common.{rules}
 use Rattle.once_machine.proofs.waiters.Lists.claim.Goals as goal
 

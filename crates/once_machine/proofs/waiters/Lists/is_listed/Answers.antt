@@ -1,4 +1,4 @@
--- A ticket has a listing where one is found.
+-- A ticket has a listing if one is found.
 use Rattle.std.proofs.Common.{◌∙◌}
 use Rattle.std.specs.Option.{option_copied}
 use Rattle.once_machine.proofs.Listing.Tickets.{found_kept, mapped_some}

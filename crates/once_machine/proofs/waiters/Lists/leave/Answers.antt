@@ -1,4 +1,4 @@
--- Who was called passes its turn on, where nobody holds.
+-- A woken task that leaves passes its turn on, if the right is free.
 use Rattle.std.proofs.Common.{rules}
 use Rattle.once_machine.proofs.waiters.Lists.leave.Goals as goal
 

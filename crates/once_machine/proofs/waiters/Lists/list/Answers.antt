@@ -1,4 +1,4 @@
--- Where a task holds the waker is listed.
+-- While a task holds, the waker is listed, unless memory is refused.
 use Rattle.std.proofs.Common.{rules}
 use Rattle.once_machine.proofs.waiters.Lists.list.Goals as goal
 

@@ -1,4 +1,4 @@
--- Where the right is held and the own listing has no waker, it was called or is not there.
+-- If the right is held and the own listing has no waker, it was woken or is not there.
 use Rattle.std.proofs.Common.{rules}
 use Rattle.once_machine.proofs.waiters.Lists.look_own.Goals as goal
 

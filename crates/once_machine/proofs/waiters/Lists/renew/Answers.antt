@@ -1,4 +1,4 @@
--- Where wakers may be the same, the list counts as mixed from here on.
+-- If wakers may be the same, the list counts as mixed from here on.
 use Rattle.once_machine.proofs.Listing.AllOther.{apart_renewed}
 use Rattle.once_machine.specs.Slots.{listings_in}
 use Rattle.once_machine.proofs.waiters.Lists.renew.Goals as goal

@@ -1,4 +1,4 @@
--- A ticket is kept where its listing was there to be taken out.
+-- A ticket is kept if its listing was there to be taken out.
 use Rattle.std.proofs.Common.{sym, ◌∙◌}
 use Rattle.once_machine.proofs.Listing.Tickets.{kept_none, kept_some}
 use Rattle.once_machine.specs.Room.{listings_of}
