@@ -31,7 +31,7 @@ pub record Seen : Type 0 where
   pub acting : ℕ  -- how many are in a call
   pub crowded_at : ℕ  -- when more tasks than the limit were about last
   pub acting_at : ℕ  -- when two tasks were in a call last
-  pub holder : ℕ  -- who held last
+  pub holder : ℕ  -- the task that held last
   pub held_at : ℕ  -- when that one held last
   pub other_held_at : ℕ  -- when another than that one held last
 

@@ -91,7 +91,7 @@ pub record IsBookOf (limit : ℕ) (w : World) (word has_put : ℕ) (slot : Bool)
   pub reached : TasksReach limit w  -- tasks that share the cell led here
   pub within : word < 2 ^ 64  -- the word is a u64
   pub word_is : flags_of word ≡ word_of w.shared  -- the word is the count and the two flags
-  pub put_is : has_put ≡ bit (nat_lt 0 w.shared.queues)  -- 1 where a queue was ever put, and else 0
+  pub put_is : has_put ≡ bit (nat_lt 0 w.shared.queues)  -- 1 if a queue was ever put, and else 0
   pub slot_is : SlotIs slot w  -- whether the slot is written
   pub door_is : slice_get pages 0 ≡ Some (Door w.shared.queues w.shared.door)  -- page 0 is the door's
   pub queue_is : slice_get pages 1 ≡ Some (Queue w.shared.head w.shared.listings)  -- page 1 is the queue's

@@ -9,8 +9,8 @@ use Rattle.once_machine.specs.Wakers.{handed_since}
 
 -- t is in a poll or a drop that it began while waiting, and in which it neither claimed nor passed its turn on
 pub record HasTurn (kind : Kind) (t : ℕ) (history : List Entry) : Type 0 where
-  pub under_way : is_under_way (status kind t history) ≡ true  -- t is in a call
-  pub began : (last_call kind t history).began ≡ Waiting  -- it waited as the call began
+  pub under_way : is_under_way (status kind t history) ≡ true  -- t is in a poll or a drop
+  pub began : (last_call kind t history).began ≡ Waiting  -- it waited as that began
   pub unclaimed : (last_call kind t history).claimed ≡ false  -- it did not claim in it
   pub unpassed : (last_call kind t history).passed ≡ false  -- it did not pass its turn on in it
 

@@ -17,7 +17,7 @@ pub data Kind : Type 0 where
 -- what the owner of the cell may do with it
 pub data OwnerCall : Type 0 where
   Take : OwnerCall  -- it takes the value out
-  Write : (value : ℕ) → OwnerCall  -- it writes another value where one is set
+  Write : (value : ℕ) → OwnerCall  -- it writes another value if one is set
   Parts : OwnerCall  -- it takes a lazy cell apart
   ReplaceValue : (value : ℕ) → OwnerCall  -- it puts a lazy cell with this value in its place
   ReplaceAnswers : (answers : List (Option ℕ)) → OwnerCall  -- it puts one with an init of these answers there
@@ -36,7 +36,7 @@ pub data Entry : Type 0 where
   Ran : (task : ℕ) → (answer : Answer) → Entry  -- the task polled its init, which answered this
   Free : (task : ℕ) → (wakers : List ℕ) → Entry  -- a release: it gave the right back, and handed these out
   Fill : (task : ℕ) → (value : ℕ) → (wakers : List ℕ) → Entry  -- a release that set this value
-  Pass : (task : ℕ) → (wakers : List ℕ) → Entry  -- it was called as a waiter, left, and passed its turn on to these
+  Pass : (task : ℕ) → (wakers : List ℕ) → Entry  -- it was woken as a waiter, left, and passed its turn on to these
   End : (task : ℕ) → (reply : Reply) → Entry  -- the poll of the task ended, and answered this
   DropBegin : (task : ℕ) → Entry  -- a drop of the task began
   DropEnd : (task : ℕ) → Entry  -- the drop ended

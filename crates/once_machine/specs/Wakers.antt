@@ -57,5 +57,5 @@ pub record HandsOut (kind : Kind) (X : List ℕ) (history : List Entry) : Type 0
 -- what a release without a value hands out
 pub record CallsOne (kind : Kind) (X : List ℕ) (history : List Entry) : Type 0 where
   pub one : length X ≤ 1  -- one waker at most
-  pub due : (w : ℕ) → IsDue kind w history → X ≢ []  -- some waker where one is due
+  pub due : (w : ℕ) → IsDue kind w history → X ≢ []  -- some waker if one is due
   pub open_alone : (w : ℕ) → member w X ≡ true → IsOpen kind w history  -- none that is not open

@@ -16,7 +16,7 @@ rally (suc n) = rally n ++ (if pings_next n then Ping else Pong) ∷ []
 
 -- the rule
 pub record IsRally (ns : List ℕ) (ps : List ℕ) (log : List Hit) : Type 0 where
-  pub pings : ℕ  -- how often the one who begins has hit
+  pub pings : ℕ  -- how often the one that begins has hit
   pub pongs : ℕ  -- how often the other has
   pub words : ns ≡ pings ∷ pongs ∷ []  -- the words count both
   pub pages : ps ≡ pings ∷ pongs ∷ []  -- so do the pages
