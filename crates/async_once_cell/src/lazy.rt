@@ -72,7 +72,7 @@ impl<T, F: Future<Output = T>> Lazy<T, F> {
 
 impl<T, F: Future<Output = T>, V: Fits<T>> Lazy<T, F, V> {
     /// A cell that this future will fill, and that promises its value: it fits, as `V` says, whatever the numbers are
-    /// about which `V` speaks. Whoever is answered it knows so, on any thread, without a token.
+    /// about which `V` speaks. A caller that is told the value knows this, on any thread, without a token.
     ///
     /// ```
     /// let lazy = Lazy::<u64, Twice, IsEven>::promised(Twice { half: 21 });

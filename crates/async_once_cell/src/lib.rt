@@ -5,7 +5,7 @@
 //!
 //! - A [`OnceCell`] is asked with an init: a future that gives the value or an error. Each caller
 //!   brings its own, and the first that gives a value fills the cell.
-//! - A [`Lazy`] is made with the future that will fill it. Whoever asks drives that future on.
+//! - A [`Lazy`] is made with the future that will fill it. Tasks that ask for its value drive that future on.
 //!
 //! A poll is Pending, or it answers the value, the error of its own init, or that it was [`Refused`].
 //!
@@ -63,7 +63,7 @@
 //!
 //! What all tasks did with a cell is its record, which has no bytes, and only grows. Whatever threads do, it is a run
 //! of a cell that is empty, held by one task or set. Besides, at each of its beginnings somebody was woken if somebody
-//! had to be, so nobody who waits is forgotten. A clause sees what a future or a token has seen of the record. After a
+//! had to be, so no waiter is forgotten. A clause sees what a future or a token has seen of the record. After a
 //! `poll` the newest entry seen is its answer. A token's look finds a value exactly if the cell is set then.
 //!
 //! Only a task that holds polls an init, and the record has each such poll and no other. In the record each `poll` or
@@ -89,7 +89,7 @@ pub use lazy::{Lazy, LazyFuturePin, LazyFutureUnpin};
 pub use once::{InitFuture, Initializing, Known, OnceCell, Parker, Told, TryInitFuture};
 pub use once_machine::{laws, record, step};
 
-/// Who waits: the flag and the list under the cell's lock, and what a section does with them.
+/// The waiters: the flag and the list under the cell's lock, and what a section does with them.
 pub mod queue {
     pub use once_machine::step::Out;
     pub use once_machine::waiters::{Answer, Listing, Lists, Op, Renews, WakerId};

@@ -43,7 +43,7 @@ pub use waits::Parker;
 /// other cell has a record of all that tasks do with it. Each of its futures and tokens has seen a beginning of it, see
 /// [`Initializing`] and [`Known`]. `V` says what is promised of the value, see [`OnceCell::promised`].
 ///
-/// Memory is taken only when tasks meet: for the queue of those who wait, and for the place of each in it. An init may
+/// Memory is taken only when tasks meet: for the queue of those that wait, and for the place of each in it. An init may
 /// borrow whatever outlives its future. One that asks its own cell waits like any other task, and may give its own
 /// value all the same. A cell may be sent to another thread if `T: Send`, and shared if `T: Send + Sync`.
 #[derive(Drop)]
@@ -82,8 +82,8 @@ impl<T, V: Fits<T>> OnceCell<T, V> {
     ghost use Rattle.async_once_cell.specs.contracts.once.OnceCell.{the_row};
 
     /// An empty cell that promises its value: what tasks put fits, as `V` says of it and of the numbers of the tag.
-    /// Whoever is answered it knows so, on any thread, without a token. Each future asks that its init gives nothing
-    /// else.
+    /// A caller that is told the value knows this, on any thread, without a token. Each future asks that its init gives
+    /// nothing else.
     ///
     /// ```
     /// let mut cell = OnceCell::<u64, TenTimes>::promised(&Tag::of::<u64, Key>(&key));
@@ -365,7 +365,7 @@ impl<T: fmt::Debug, V: Fits<T>> fmt::Debug for OnceCell<T, V> {
 /// The value of a cell, if there is one.
 #[derive(Drop)]
 pub(crate) enum Contents<T, V: Fits<T> = Anything> {
-    /// Put there by whoever had the cell alone. It has no record.
+    /// Put there by the cell's owner. It has no record.
     Owned(T),
     /// In what tasks share. They set it once at most.
     Shared(Inner<T, ListedWaker, V>),

@@ -17,7 +17,7 @@ pub fn has_text<R: AllocGlobal>(rt: &R, cell: &impl Debug, wanted: &str) -> bool
     }
 }
 
-/// Whether the value is not set, and nobody holds or is counted. Who is listed is counted.
+/// Whether the value is not set, and nobody holds or is counted. A task that is listed is counted.
 pub fn is_free<R: AllocGlobal>(rt: &R, cell: &impl Debug) -> bool {
     has_text(rt, cell, FREE)
 }

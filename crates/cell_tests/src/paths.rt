@@ -6,7 +6,7 @@ use async_once_cell::step::Step;
 use once_script::plain::Core;
 use std::test::Fail;
 
-// The first one who is listed gets the right, and the next waits.
+// The first that comes to be listed gets the right, and the next waits.
 #[test]
 fn a_list(rt: HostRuntime) {
     let mut lists = Lists::new(rt.alloc());

@@ -142,7 +142,7 @@ fn shown_held<J: Key, R: Wait + AllocGlobal>(
     Ok(text)
 }
 
-/// Calls under a lock find the number of its book. What the lock shows is its content, where nobody holds it.
+/// Calls under a lock find the number of its book. While nobody holds the lock, it shows its content.
 #[test]
 fn a_lock_keeps_its_book_and_shows_its_content(rt: HostRuntime) -> Result<(), Fail> {
     let mut lock = KeyedMutex::new(Tally { number: 7, sum: 0 });

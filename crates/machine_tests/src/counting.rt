@@ -15,7 +15,7 @@ pub struct Counting {
     pub closes: u64,
     /// How often the value was put.
     pub puts: u64,
-    /// Whom the last release, or the last who left, woke. None says that there was none.
+    /// Whom the last release, or the last waiter that left, woke. None says that there was neither.
     pub woken: Option<Out<u64>>,
 }
 
@@ -92,7 +92,7 @@ impl Side<u64> for Counting {
 /// A listing: its ticket, and its waker if its task was not woken.
 pub type Listed = Option<(u64, Option<u64>)>;
 
-/// The listings of all who are woken, the first four of them. All are None if one is woken.
+/// The listings of all that are woken, the first four of them. All are None if one is woken.
 pub fn all_called(out: &Out<u64>) -> [Listed; 4] {
     let mut called = [None; 4];
     if let Out::All(listings) = out {

@@ -1,4 +1,4 @@
-//! A fill asks for no memory, also where the list could not note where a listing was put.
+//! A fill asks for no memory, also if the list could not note where a listing was put.
 
 use crate::doubles::memory::hoard;
 use once_machine::step::Out;
@@ -15,7 +15,7 @@ fn list(lists: &mut Lists<u64>, mut ticket: Option<u64>, waker: u64) -> bool {
     lists.list(&mut ticket, &mut Some(waker), NEW) == Answer::Listed
 }
 
-// One who holds, and four who wait. The first of these listed itself anew, and so the list has room for
+// One task that holds, and four that wait. The first of these listed itself anew, and so the list has room for
 // eight, and for four notes.
 fn crowd(alloc: Global) -> Lists<u64> {
     let mut lists = Lists::new(alloc);
@@ -43,7 +43,7 @@ fn calls(out: &Out<u64>, wakers: [u64; 5]) -> bool {
     }
 }
 
-// A fifth is listed while all memory is taken. Then the value is set, where no memory is left or just
+// A fifth is listed while all memory is taken. Then the value is set, while no memory is left or just
 // as much as a note would take. Whether the fifth is listed, whether all five are woken, and whether
 // the memory that was left is left still.
 fn filled(alloc: Global, leaves: bool) -> Result<[bool; 3], AllocError> {

@@ -12,7 +12,7 @@ use std::test::Fail;
 /// One listing: the ticket before, the waker and the word, and then the answer and the ticket after.
 type Row = (Option<u64>, u64, u64, Answer<u64>, Option<u64>);
 
-// Who waits is listed once, by its ticket. Listed anew it goes to the end, with its new waker.
+// A waiter is listed once, by its ticket. Listed anew it goes to the end, with its new waker.
 #[test]
 fn a_list_has_who_waits_once(rt: HostRuntime) -> Result<(), Fail> {
     let mut lists = Lists::new(rt.alloc());
@@ -89,7 +89,7 @@ fn row_found_otherwise(lists: &mut Lists<u64>, rows: &[Look]) -> Option<usize> {
     None
 }
 
-// Two who wait, with the wakers 7 and 8, while a third holds.
+// Two that wait, with the wakers 7 and 8, while a third holds.
 fn two_listed(alloc: Global) -> Lists<u64> {
     let mut lists = Lists::new(alloc);
     lists.look(&mut None, None, NEW);
@@ -114,8 +114,8 @@ fn one_is_called_and_leaves(rt: HostRuntime) {
     assert_eq!(rt; seen, (called, [true, true, false], [None, None]));
 }
 
-// The first is woken, leaves while another holds, and leaves again. Then two more are woken. Who
-// was woken, who was listed, and whom each leave woke.
+// The first is woken, leaves while another holds, and leaves again. Then two more are woken. Which
+// were woken, which were listed, and whom each leave woke.
 fn one_leaves(lists: &mut Lists<u64>) -> ([Option<Option<u64>>; 3], [bool; 3], [Option<u64>; 2]) {
     let first = called(lists);
     let listed = [lists.is_listed(Some(0)), lists.is_listed(Some(1))];
@@ -130,7 +130,7 @@ fn one_leaves(lists: &mut Lists<u64>) -> ([Option<Option<u64>>; 3], [bool; 3], [
     )
 }
 
-// A turn is passed on where nobody holds. A claim takes the own listing out, and the ticket.
+// A turn is passed on if nobody holds. A claim takes the own listing out, and the ticket.
 #[test]
 fn a_turn_is_passed_on_or_taken(rt: HostRuntime) {
     let mut lists = two_listed(rt.alloc());
@@ -284,7 +284,7 @@ fn a_task_that_was_never_polled_is_dropped_without_a_step(rt: HostRuntime) {
     assert_eq!(rt; (is_begun, step.is_finished()), (false, true));
 }
 
-// A queue is put to the door, where memory is given and there is room for the log.
+// A queue is put to the door, if memory is given and there is room for the log.
 fn put(core: &mut Core<u64>, is_given: bool) -> Option<u64> {
     core.grant(is_given);
     core.reserve().ok()?;
@@ -304,7 +304,7 @@ fn list(core: &mut Core<u64>, queue: u64) -> Option<(Answer<u64>, Op<u64>)> {
     Some((core.section(&queue, &mut op), op))
 }
 
-// The right is given back, where a quick holder has it.
+// The right is given back, if a quick holder has it.
 fn release(core: &mut Core<u64>, queue: u64, is_ready: bool) -> Option<Answer<u64>> {
     core.reserve().ok()?;
     if core.word.is_ready() || !core.word.is_quick() || core.lists.head {
@@ -325,7 +325,7 @@ fn take(core: &mut Core<u64>) -> Option<bool> {
     Some(core.door_take())
 }
 
-// One is counted in, whatever the limit is, where there are few: the word after.
+// One is counted in, whatever the limit is, if few are counted in: the word after it.
 fn add_one(core: &mut Core<u64>) -> Option<u64> {
     if core.word.count() > 9 {
         return None;
@@ -334,7 +334,7 @@ fn add_one(core: &mut Core<u64>) -> Option<u64> {
     Some(core.load())
 }
 
-// One is counted out, where one is counted in: the word after.
+// One is counted out, if one is counted in: the word after it.
 fn count_out(core: &mut Core<u64>) -> Option<u64> {
     if core.word.count() == 0 {
         return None;
@@ -390,7 +390,7 @@ fn a_core_counts_beyond_the_limit_and_out(rt: HostRuntime) {
     assert_eq!(rt; seen, (true, counts, false, words));
 }
 
-// A claim, two who count in, a fast release, one more who counts in, and two who count out.
+// A claim, two that count in, a fast release, one more that counts in, and two that count out.
 fn counted(alloc: Global) -> (bool, [Counted; 2], bool, [Option<u64>; 3]) {
     let mut core = Core::new(alloc, false, 1);
     let won = core.quick();
@@ -410,7 +410,7 @@ type Begun = (bool, Option<bool>, Option<u64>, bool);
 
 const BEGUN: Begun = (true, Some(false), Some(1), true);
 
-// A claim, and with the queue that is put then one who is listed.
+// A claim, and then one that is listed in the queue that is put to the door.
 fn begin(core: &mut Core<u64>) -> Begun {
     let won = core.quick();
     let stood = take(core);

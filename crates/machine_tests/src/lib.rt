@@ -1,7 +1,7 @@
 //! The machine under test, in what no clause says of it: memory, wakers, sizes, locks, and what is printed.
 //!
 //! `book_uses` runs the uses of `pagebook`. `layers` and `counting` call the layers one by one.
-//! `fills` and `room` have what the list of those who wait takes of memory.
+//! `fills` and `room` have what the list of those that wait takes of memory.
 //! `parts` has the parts of a cell alone, by hand and by whole calls of tasks, and `scenes` step by step. `poller`
 //! polls the inits of their tasks. `replay` has scripts with their records. `doubles` is for the tests of cells and of
 //! `memo` too.

@@ -53,7 +53,7 @@ where
     Err(Fault::Turns)
 }
 
-/// Asks for the value of a key within so many turns, with a fetch that is polled where no other was.
+/// Asks for the value of a key within so many turns, with a fetch that is polled if no other was.
 /// It may wait as [`answer_within`] does.
 ///
 /// Asked for: what is fetched is as the table promises. So a table whose promise is
@@ -96,7 +96,7 @@ where
     Ok(answers)
 }
 
-/// What two threads are told that ask for each key at once. It waits for both to end, also where it
+/// What two threads are told that ask for each key at once. It waits for both to end, also if it
 /// gives up.
 pub fn ask_twice<R>(
     rt: &R,
@@ -117,7 +117,7 @@ where
     })
 }
 
-// The answers of two threads, where neither gave up and they are the same.
+// The answers of two threads, if neither gave up and they are the same.
 fn agreed_by(
     first: Result<Vec<Answer>, Fault>,
     second: Result<Vec<Answer>, Fault>,
@@ -125,7 +125,7 @@ fn agreed_by(
     agreed(first?, second?)
 }
 
-/// The answers of two threads, where they are the same.
+/// The answers of two threads, if they are the same.
 pub fn agreed(first: Vec<Answer>, second: Vec<Answer>) -> Result<Vec<Answer>, Fault>
     ensures same { IfOk result (λ told. (told.items ≡ first.items) × (told.items ≡ second.items)) }
     ensures other { IfErr result (λ _. first.items ≢ second.items) }

@@ -40,7 +40,7 @@ where
 /// Has two threads ask a table for each of the keys [`KEYS`], with so many turns for each. Then it
 /// prints what they were told, and how often a key was fetched here, and flushes the writer.
 ///
-/// Nothing is written before all is known. So only where a write or the flush fails a beginning may
+/// Nothing is written before all is known. So only if a write or the flush fails may a beginning
 /// have gone out.
 fn show<R, O>(rt: &R, memo: &Memo<u64>, turns: u64, output: &mut O) -> Result<(), Fault>
 where

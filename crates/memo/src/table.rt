@@ -14,9 +14,9 @@ use std::marker::Model;
 
 /// A table of values that are fetched once: it has a cell for each of its keys.
 ///
-/// The keys are given when the table is made. Whoever asks for a key brings a fetch of its own; the
-/// first fills the key's cell, and all others get that value. Threads may share a table where they
-/// may share its cells.
+/// The keys are given when the table is made. Each caller that asks for a key brings a fetch of its
+/// own; the first fills the key's cell, and all others get that value. Threads may share a table if
+/// they may share its cells.
 ///
 /// ```
 /// let memo = Memo::new(alloc, vec![in alloc; 1, 2]?)?;
@@ -55,7 +55,7 @@ impl<T, V: Fits<T>> Model for Memo<T, V> {
 
 impl<T> Memo<T> {
     /// A table with an empty cell for each of these keys. A key that is given again has the cell of
-    /// its first place. Where memory is refused, all is given back. It waits for nobody.
+    /// its first place. If memory is refused, all is given back. It waits for nobody.
     ///
     /// ```
     /// let memo = Memo::<u64>::new(alloc, vec![in alloc; 7, 5, 7]?)?; // cells for 5 and 7
@@ -72,7 +72,7 @@ impl<T> Memo<T> {
 
 impl<T, V: Fits<T>> Memo<T, V> {
     /// A table as by [`new`](Memo::new), each of whose values is promised: it fits its key, as `V` says. A fetch of
-    /// a key gives no other value, and whoever asks for the key knows that of what is answered. Where memory is
+    /// a key gives no other value, and a caller that asks for the key knows that of what is answered. If memory is
     /// refused, all is given back. It waits for nobody.
     ///
     /// ```
@@ -94,7 +94,7 @@ impl<T, V: Fits<T>> Memo<T, V> {
         Ok(Memo { cells })
     }
 
-    /// The cell of a key; None where the table was made without the key. What the cell promises is about the key. It
+    /// The cell of a key; None if the table was made without the key. What the cell promises is about the key. It
     /// waits for nobody.
     ///
     /// ```
@@ -107,7 +107,7 @@ impl<T, V: Fits<T>> Memo<T, V> {
         self.cells.get(&key)
     }
 
-    /// A token of a key's cell, which knows nothing yet; None where the table was made without the
+    /// A token of a key's cell, which knows nothing yet; None if the table was made without the
     /// key. It takes no memory, and waits for nobody.
     ///
     /// ```
@@ -121,8 +121,8 @@ impl<T, V: Fits<T>> Memo<T, V> {
         Some(self.cell(key)?.token())
     }
 
-    /// The value of a key, where it was fetched, and the token learns it. A token that knows a value
-    /// gets that value, always. None where the key has no value yet, or where the table was made
+    /// The value of a key, if it was fetched, and the token learns it. A token that knows a value
+    /// gets that value, always. None if the key has no value yet, or if the table was made
     /// without the key; the token is then as it was. The token is of the key's cell. It waits for
     /// nobody.
     ///

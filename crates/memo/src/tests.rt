@@ -30,7 +30,7 @@ fn table(alloc: Global, keys: &[u64]) -> Result<Memo<u64>, AllocError> {
     Memo::new(alloc, given)
 }
 
-// The value at a key, 0 where its cell is empty; None where there is no cell.
+// The value at a key, 0 if its cell is empty; None if there is no cell.
 fn value_at(memo: &Memo<u64>, key: u64) -> Option<u64> {
     let cell = memo.cell(key)?;
     Some(cell.get().copied().unwrap_or(0))
@@ -69,7 +69,7 @@ fn cells_of_keys(rt: HostRuntime) -> Result<(), Fail> {
     Ok(())
 }
 
-// Whether a key has neither cell nor token, and whoever asks is told so.
+// Whether a key has neither cell nor token, and a caller that asks for it is told so.
 fn is_missing<R: Wait + RandomSource + AllocGlobal + Clock>(
     rt: &R,
     memo: &Memo<u64>,

@@ -62,7 +62,7 @@ pub struct Seen {
     pub crowded_at: u64,
     /// When two tasks were in a call last.
     pub acting_at: u64,
-    /// Who held last.
+    /// The task that held last.
     pub holder: u64,
     /// When that one held last.
     pub held_at: u64,
@@ -440,7 +440,7 @@ fn stands(task: Task) -> bool
     }
 }
 
-// How many there are, where one was counted or not, and is now or not.
+// How many are counted, if one was counted before or not, and is now or not.
 fn counted(count: u64, was: bool, is: bool) -> u64
     requires { count < 2 ^ 63 }
     ensures { result ≡ count_of count was is }

@@ -171,7 +171,7 @@ pub fn handed_by<'a>(entry: &'a Entry) -> &'a [u64]
     }
 }
 
-/// A task after an entry of it, which has this number, where the cell was this.
+/// A task after an entry of it, which has this number, if the cell was this before.
 pub fn moved(entry: &Entry, cell: Cell, number: u64, task: Task) -> Task
     ensures { task_in result ≡ moved_to (entry_of entry.now) (cell_of cell) number (task_in task) }
 {

@@ -37,8 +37,8 @@ pub struct Forgotten {
 pub struct Verdict {
     /// Where the record stops to be a run, or `None` if it is one.
     pub fault: Option<Fault>,
-    /// Where somebody is forgotten in the entries before the fault, or in all; `None` if at each moment somebody was
-    /// woken who had to be.
+    /// Where somebody is forgotten in the entries before the fault, or in all; `None` if, whenever somebody had to be
+    /// woken, somebody was.
     pub forgotten: Option<Forgotten>,
 }
 
@@ -70,7 +70,7 @@ pub fn judge(
     ensures reason { IfOk result (λ v. IfSome v.fault (λ f.
         IsTrueAt (kind_of kind.now) limit f.reason f.entry entries.now)) }
 
-    // At each moment of the run somebody was woken who had to be; or there is a first at which nobody was.
+    // Whenever in the run somebody had to be woken, somebody was; or there is a first moment at which nobody was.
     ensures called { IfOk result (λ v. MatchOption v.forgotten
         (AtEvery (SomebodyCalled (kind_of kind.now)) (history_in (judged v.fault entries.now)))
         (λ f. IsForgottenAt (kind_of kind.now) entries.now f.entry f.task)) }

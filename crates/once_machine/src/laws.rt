@@ -74,7 +74,7 @@ pub fn set_value_calls_all()
     ensures { (kind : Kind) (limit : ℕ) (h : List Entry) → IsRun kind limit h → AtEvery (NobodyForgotten kind) h }
 {}
 
-/// A release without a value hands out one waker at most, and not those of all who wait. If some task waits and was not
+/// A release without a value hands out one waker at most, and not those of all waiters. If some task waits and was not
 /// woken since its last poll ended, it hands out one, which is open.
 pub fn failed_release_calls_one()
     ensures at_most_one { (kind : Kind) (limit t : ℕ) (X : List ℕ) (h : List Entry)

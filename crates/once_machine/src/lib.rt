@@ -1,4 +1,4 @@
-//! The machine of a cell: its word, who waits for it, the steps of a task, and the record of all that tasks do,
+//! The machine of a cell: its word, its waiters, the steps of a task, and the record of all that tasks do,
 //! with the rules and laws of every run.
 #![tactic(auto)]
 

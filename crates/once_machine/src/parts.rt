@@ -28,7 +28,7 @@ pub trait Parts<W> {
     /// A queue, as a waiter keeps it.
     type Queue;
 
-    /// What an init gives, where the parts keep it.
+    /// What an init gives, if the parts keep it.
     type Value;
 
     /// What shows that a task has the right to run its init.

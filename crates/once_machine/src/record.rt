@@ -47,7 +47,7 @@ pub enum Reply {
 pub enum Call {
     /// Takes the value out of a once cell.
     Take,
-    /// Writes another value where one is set.
+    /// Writes another value, if one is set.
     Write(u64),
     /// Takes a lazy cell apart.
     Parts,

@@ -1,4 +1,4 @@
-//! The listings of those who wait, in their order, each found by its ticket without a search.
+//! The listings of those that wait, in their order, each found by its ticket without a search.
 ghost use Rattle.std.specs.Prelude.{◌≡◌, ◌==◌, ◌<◌, ◌≤◌, ◌+◌, ◌*◌, max, ◌⊎◌, ◌++◌, ◌∷◌, [], ℕ, true, false};
 ghost use Rattle.std.specs.Prelude.{if◌then◌else◌, Some, None, IsSome, IfSome, IfOk, IsOk, OnOk, length, vec_len};
 ghost use Rattle.std.specs.Prelude.{vec_capacity, HoldsAt, filter};

@@ -73,15 +73,15 @@ impl RunRight for () {
 /// The wakers that a section hands out, in their order.
 #[derive(Debug, Drop, PartialEq, Eq)]
 pub enum Out<W> {
-    /// One who waits, or nobody.
+    /// One that waits, or nobody.
     One(Option<W>),
-    /// All who wait: their listings, the oldest first, without a waker that is the same as one before it.
+    /// All that wait: their listings, the oldest first, without a waker that is the same as one before it.
     All(Vec<Listing<W>>),
 }
 
 /// What a call brings of its own: its init, the value or error that this gave, and its waker.
 pub trait Side<W> {
-    /// What the init gives, where the parts keep it.
+    /// What the init gives, if the parts keep it.
     type Value;
 
     /// What shows that the task has the right.
@@ -269,7 +269,7 @@ impl<W: Drop, Q: Drop> Step<W, Q> {
         matches!(self, Step::Resting(_))
     }
 
-    /// How many steps the call may still take at most; 0 where none is under way.
+    /// How many steps the call may still take at most; 0 if none is under way.
     pub fn left(&self) -> u32
         ensures left { result ≡ left_of self.now }
         ensures most { result ≤ 16 }

@@ -1,4 +1,4 @@
-//! Who waits: the flag and the list under the cell's lock, and what a section does with them.
+//! The waiters: the flag and the list under the cell's lock, and what a section does with them.
 ghost use Rattle.std.specs.Prelude.{◌≡◌, ◌≢◌, ◌↔◌, ◌+◌, ◌*◌, ◌<◌, ◌≤◌, max, ◌⊎◌, ◌++◌, ◌∷◌, [], ℕ, true, false};
 ghost use Rattle.std.specs.Prelude.{if◌then◌else◌, IsSome, IfSome, IsOk, IfOk, OnOk, OnErr, All, length, Some, None};
 ghost use Rattle.std.specs.Prelude.{vec_len};
@@ -53,7 +53,7 @@ impl WakerId for u64 {
 
 /// Puts the task's current waker in the place of one that is listed.
 pub trait Renews<W> {
-    // Who renews and the listed waker, before the call and after it.
+    // The side that renews, and the listed waker, before the call and after it.
     ghost renewed: { Self → W → Self → W → Type 0 };
 
     /// Renews the waker.
@@ -117,7 +117,7 @@ pub enum Answer<W> {
     Gone,
 }
 
-/// The flag of a holder that claimed under the lock, and the listings of those who wait. No ticket stands in the list
+/// The flag of a holder that claimed under the lock, and the listings of those that wait. No ticket stands in the list
 /// twice. On average over many calls, a look, a listing, a leave and a release without the value take the same time
 /// however many are listed. A release with the value takes time in proportion to them. If two wakers may be the same, a
 /// new one is compared with each, and a release with the value compares each with all before it. From the first listing
@@ -312,7 +312,7 @@ impl<W: WakerId + Drop> Lists<W> {
         self.slots.reserve()
     }
 
-    /// Who is listed, the oldest first.
+    /// The listings, the oldest first.
     pub fn listings(&self, alloc: Global) -> Result<Vec<&Listing<W>>, AllocError>
         ensures { IfOk result (λ all. lent_listings all.items ≡ listings_of self.now) }
     {

@@ -15,7 +15,7 @@ use std::alloc::{AllocError, Global};
 pub struct Core<W: WakerId> {
     /// The word: how many tasks are counted in, and the two bits.
     pub word: Word,
-    /// The number of the queue at the door, or None where there is no queue.
+    /// The number of the queue at the door, or None if there is no queue.
     pub door: Option<u64>,
     /// The flag and the listings of the queue at the door.
     pub lists: Lists<W>,

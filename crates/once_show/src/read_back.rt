@@ -1,8 +1,8 @@
 //! Reads pictures and tables of scripts at random back, and compares them with what the world says at each line.
 //!
-//! Of a picture it reads who holds and who waits, polls and drops, who wakes whom, and the band of the cell. Of a
-//! table it reads all. Nothing is shared with `once_view` but the words of docs/SCRIPTS.md and the classes of shapes.
-//! The same seed always gives the same script.
+//! Of a picture it reads which tasks hold and which wait, polls and drops, which task wakes which, and the band of the
+//! cell. Of a table it reads all. Nothing is shared with `once_view` but the words of docs/SCRIPTS.md and the classes
+//! of shapes. The same seed always gives the same script.
 
 use crate::chance::Chance;
 use fault::Fault;

@@ -60,7 +60,7 @@ pub enum Fault {
     BeyondTheEnd { from: u64, end: u64 },
     /// None of the lines that are to be shown says anything.
     NothingSaid { from: u64, to: u64 },
-    /// Whoever reads the output closed it before all was written.
+    /// The reader of the output closed it before all was written.
     ClosedPipe,
     /// A read or a write failed.
     Io,

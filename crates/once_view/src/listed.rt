@@ -1,4 +1,4 @@
-//! Who is listed in the queue, followed from line to line.
+//! The listings of the queue, followed from line to line.
 //!
 //! The list of the machine is not read whole after each line, since that takes time for each listing. What a line does
 //! to it follows from the entries that it adds, and from where its task stands then.
@@ -27,7 +27,7 @@ struct Polled {
     place: Option<u64>,
 }
 
-/// Who is listed.
+/// The listings of the queue.
 #[derive(Drop)]
 pub struct Listed {
     /// By their places, so the oldest comes first.

@@ -94,7 +94,7 @@ struct Picture {
     range: LineRange,
     /// How many columns there are.
     columns: u64,
-    /// Who is listed.
+    /// The listings of the queue.
     listed: Listed,
     lanes: Lanes,
     cell: CellState,

@@ -51,7 +51,7 @@ struct Table {
     /// The place of each task among them.
     places: BTreeMap<u64, usize>,
     rows: Vec<Row>,
-    /// Who is listed after the last line.
+    /// The listings after the last line.
     listed: Listed,
     /// The same as it is shown.
     listed_cell: String,

@@ -35,7 +35,7 @@ impl fmt::Display for VerdictLine<'_> {
     }
 }
 
-/// Who was forgotten, and when.
+/// A task that was forgotten, and when.
 #[derive(Clone, Copy)]
 struct ForgottenText(Forgotten);
 

@@ -1,8 +1,8 @@
 //! Ghost state behind the words that threads share: a proof can say what all threads did, in one order, and no byte of
 //! it is there when the program runs.
 //!
-//! Threads change a few atomic words, and what a value in a word *means* lies in many places: how often somebody came,
-//! who may write next, which of two went first. A **book** holds these meanings for the proof: the values of its words,
+//! Threads change a few atomic words, and what a value in a word *means* lies in many places: how often one came, which
+//! may write next, which of two went first. A **book** holds these meanings for the proof: the values of its words,
 //! *pages* of any type, and a *log* that only grows. A **rule**, which the author states, ties them together at each
 //! moment. An atomic step of a word may change and add pages and add to the log, if the rule holds again after it.
 //!
@@ -24,16 +24,16 @@
 //!   beginning of the other (`agrees`), and one can learn what the other knows.
 //! - `Seen::note` is a step that touches no word.
 //! - `Slot` is a place for one value, whose state is a word of the book, without bytes. By the rule no put is refused,
-//!   and whoever has seen the put gets the value with no test. `Written` is a token that shows for good what it is.
-//! - `Fits` says what is promised of a slot's value when the slot is made. Whoever puts the value shows it, and whoever
-//!   gets the value knows it, on any thread and without a token.
+//!   and code that has seen the put gets the value with no test. `Written` is a token that shows for good what it is.
+//! - `Fits` says what is promised of a slot's value when the slot is made. Code that puts the value shows it, and code
+//!   that gets the value knows it, on any thread and without a token.
 //! - `KeyedMutex` is a lock whose content is of a book, as pens are. A clause can name that book, and no type has to.
 //!
 //! # How a structure is made of it
 //!
 //! `CALLING.md` tells it step by step. A whole program is `first` in the crate `pagebook_uses`: of two threads one is
-//! told that it came first, and never both. Whoever finds 0 in the word adds a page and has its pen, and there is one
-//! such pen.
+//! told that it came first, and never both. The one that finds 0 in the word adds a page and has its pen, and there is
+//! one such pen.
 //!
 //! # What is proved, and what is not said
 //!

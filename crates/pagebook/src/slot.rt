@@ -2,8 +2,8 @@
 // value, and 2 from then on. The state has no bytes, so its steps are steps of the proof alone, and none of them orders
 // the write of the value before a read. What orders the two is how the reader came to know that the value is there. It
 // stepped a `Word` and found a number that says so, or it got a `Seen` or a `Written` from a thread that did, over a
-// lock, say, or at a join. Neither a note nor a put elsewhere can tell it (`proofs/Book/Untold.antt`), so whoever may
-// call `get` or `value` has such an order.
+// lock, say, or at a join. Neither a note nor a put elsewhere can tell it (`proofs/Book/Untold.antt`), so a caller that
+// may call `get` or `value` has such an order.
 ghost use Rattle.core.specs.Prelude.{◌≡◌, ℕ, ◌+◌, [], drop, slice_get, IfSome};
 ghost use mathlib.Core.List.{IsPrefix};
 ghost use base.Fml.{fsep, fex};
@@ -130,7 +130,7 @@ impl<T, E, P, R: Rule<E, P>, V: Fits<T>> Slot<T, E, P, R, V> {
         }
     }
 
-    /// The value, for whoever shows by a token that there is one. No book is needed.
+    /// The value, for a caller that shows by a token that there is one. No book is needed.
     pub fn value<'a>(&'a self, written: &Written<T>) -> &'a T
         requires { written.now.of ≡ self.now.id }
         ensures { (result.now ≡ written.now.value) × V.fits self.now.about result.now }

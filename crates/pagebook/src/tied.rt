@@ -10,7 +10,7 @@ pub trait Key {
     ghost key: { Book };
 }
 
-// What callers write where the key is picked by their proof. The key that stands here is of no book that is ever made.
+// What callers write if their proof picks the key. The key that stands here is of no book that is ever made.
 impl Key for Brand {
     ghost key = { record { number = 0; words_name = 0; pages_name = 0; log_name = 0 } };
 }
@@ -20,7 +20,7 @@ pub trait Keyed {
     ghost key_of: { Self → Book };
 }
 
-/// A value that has the key `J`. A guard leads to one, and whoever changes the value leaves it with that key.
+/// A value that has the key `J`. A guard leads to one, and code that changes the value leaves it with that key.
 #[derive(Drop)]
 pub struct Tied<T: Keyed, J: Key> {
     /// The value itself.
@@ -30,7 +30,7 @@ pub struct Tied<T: Keyed, J: Key> {
     pub ghost fits: { T.key_of value ≡ J.key },
 }
 
-/// A lock whose type names the key: what a `KeyedMutex` is to one who knows its key.
+/// A lock whose type names the key: what a `KeyedMutex` is to code that knows its key.
 #[derive(Drop)]
 pub struct LockOf<T: Keyed, J: Key> {
     /// The lock. A guard of it leads to the value and its key.

@@ -1,4 +1,4 @@
-// Who comes first: of two threads one is told so, and never both. Whoever finds 0 in the word adds a page and has
+// Of two threads one is told that it came first, and never both. The one that finds 0 in the word adds a page and has
 // its pen, and there is one such pen.
 ghost use Rattle.std.specs.Prelude.{◌≡◌, true, [], ◌∷◌, IfSome};
 ghost use Rattle.pagebook_uses.specs.First.{medal};
@@ -6,7 +6,7 @@ ghost use Rattle.pagebook_uses.specs.First.{medal};
 use pagebook::{Opening, Pens, Play, Rule, Seen, Word};
 use std::thread::{Threads, join};
 
-/// The page of the one who comes first.
+/// The page of the one that comes first.
 pub struct Medal;
 
 /// The rule: the word says how many medals there are, and that is one at most.
@@ -51,7 +51,7 @@ pub struct Line {
     pub ghost front_is: { front.book ≡ medals.book },
 }
 
-/// The one who came first.
+/// The one that came first.
 #[derive(Drop)]
 pub struct Winner {
     pub pens: Pens<Medal>,
@@ -68,7 +68,7 @@ impl Line {
         Line { medals, front }
     }
 
-    /// Comes to the line: Some for the one who comes first.
+    /// Comes to the line: Some for the one that comes first.
     pub fn come(&self) -> Option<Winner>
         ensures { IfSome result (λ w. w.pens.book ≡ self.now.medals.book) }
     {
@@ -83,7 +83,7 @@ impl Line {
     }
 }
 
-/// There are no two who came first at one line. It does nothing: one hand cannot have two pens of one page.
+/// There are no two that came first at one line. It does nothing: one hand cannot have two pens of one page.
 ///
 /// Asked for: both came to one line.
 pub fn never_both(first: Winner, second: Winner)

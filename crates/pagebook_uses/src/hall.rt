@@ -1,5 +1,5 @@
-// A hall that visitors enter and leave. A word counts who is inside, by additions, so nobody waits to leave; the
-// desk at the door counts who came in, under a lock.
+// A hall that visitors enter and leave. A word counts those inside, by additions, so nobody waits to leave; the
+// desk at the door counts those that came in, under a lock.
 ghost use Rattle.std.specs.Prelude.{◌≡◌, ℕ, Bool, ◌+◌, ◌-◌, ◌<◌, ◌^◌, true, false, List, [], ◌∷◌, length};
 ghost use Rattle.pagebook.specs.Pages.{Book};
 ghost use Rattle.pagebook_uses.specs.Hall.{IsKept};
@@ -184,7 +184,7 @@ impl Hall {
         }
     }
 
-    /// A visitor comes in at the desk, and goes out past it. It does nothing where the desk cannot count one more.
+    /// A visitor comes in at the desk, and goes out past it. It does nothing if the desk cannot count one more.
     pub fn visit(&self, rt: &impl Wait) {
         visit_as::<Brand, _>(rt, self)
     }

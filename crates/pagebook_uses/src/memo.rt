@@ -1,4 +1,4 @@
-// A memo of a key, of which it is promised beforehand what its value will be: ten times the key. So whoever gets the
+// A memo of a key, of which it is promised beforehand what its value will be: ten times the key. So code that gets the
 // value knows which it is, on any thread, and without a token.
 ghost use Rattle.std.specs.Prelude.{◌≡◌, ◌*◌, ◌^◌, ◌<◌, IfSome};
 ghost use Rattle.pagebook_uses.specs.Promise.{key_of};

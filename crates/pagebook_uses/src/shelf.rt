@@ -1,4 +1,4 @@
-// A shelf for one value: it is put once, and then a bit is set. Whoever finds the bit has the value, with no test
+// A shelf for one value: it is put once, and then a bit is set. A thread that finds the bit has the value, with no test
 // and no lock, and a token that shows for good which value it is. What was promised of the value when the shelf was
 // made is known without any token (`memo`).
 ghost use Rattle.std.specs.Prelude.{◌≡◌, ℕ, [], ◌∷◌, IfSome};
@@ -15,7 +15,7 @@ use std::thread::{Threads, join};
 #[derive(Clone, Copy)]
 pub struct Filled;
 
-/// The one page: how far the one is who puts the value.
+/// The one page: how far the put of the value has come.
 #[derive(Clone, Copy)]
 pub enum Stage {
     Empty,
@@ -195,7 +195,7 @@ fn copied(shelf: &Shelf<u64>, front: &Seen<Filled, Stage, OneFill>) -> Option<(u
     }
 }
 
-/// Two threads look. Where both find a value, it is the same.
+/// Two threads look. If both find a value, it is the same.
 ///
 /// Asked for: what was seen is of this shelf.
 pub fn two_looks<R: Threads>(

@@ -72,7 +72,7 @@ pub struct Counter {
     pub ghost front_is: { front.book ≡ next.book },
 }
 
-/// One who draws. A clause sees the book of its page, and the numbers that it drew, the last one first.
+/// One that draws. A clause sees the book of its page, and the numbers that it drew, the last one first.
 #[derive(Drop)]
 pub struct Drawer {
     pens: Pens<Drawn>,
@@ -100,7 +100,7 @@ impl Counter {
         Counter { next, front }
     }
 
-    /// One more who draws, and has no number yet.
+    /// One more that draws, and has no number yet.
     pub fn drawer(&self) -> Drawer
         ensures { (result.0 ≡ self.now.next.book) × (result.1 ≡ []) }
     {
@@ -112,7 +112,7 @@ impl Counter {
 }
 
 impl Drawer {
-    /// Draws the next number: None where another drew it in the meantime, or where numbers have run out.
+    /// Draws the next number: None if another drew it in the meantime, or if numbers have run out.
     ///
     /// Asked for: the counter is of its book.
     pub fn draw(&mut self, counter: &Counter) -> Option<u64>
@@ -149,8 +149,8 @@ impl Drawer {
     }
 }
 
-/// Two who drew have no number in common. It does nothing: the pens of both are put into one hand, and a note says what
-/// the rule says of them.
+/// Two that drew have no number in common. It does nothing: the pens of both are put into one hand, and a note says
+/// what the rule says of them.
 ///
 /// Asked for: they drew at one counter.
 pub fn compare(first: Drawer, second: Drawer)
@@ -166,7 +166,7 @@ pub fn compare(first: Drawer, second: Drawer)
     seen.note::<(), Compares>(&mut pens, &());
 }
 
-/// Two numbers, and the one who drew them.
+/// Two numbers, and the one that drew them.
 #[derive(Drop)]
 pub struct Pair {
     pub first: u64,
@@ -176,7 +176,7 @@ pub struct Pair {
 }
 
 /// Two threads draw two numbers each at a new counter, with so many tries for each: all four numbers, of which no
-/// number of the one is one of the other. None where one of them could not draw.
+/// number of the one is one of the other. None if one of them could not draw.
 pub fn draw_apart<R: Threads>(rt: &R, tries: u32) -> Option<(u64, u64, u64, u64)>
     ensures { IfSome result (λ r. NoCommon (r.1 ∷ r.0 ∷ []) (r.3 ∷ r.2 ∷ [])) }
 {

@@ -6,7 +6,7 @@ ghost use Rattle.pagebook_uses.specs.Turns.{rally};
 use pagebook::{Opening, Pens, Play, Rule, Seen, Word};
 use std::thread::{Threads, join};
 
-/// An entry of the log: who hit.
+/// An entry of the log: which player hit.
 #[derive(Clone, Copy)]
 pub enum Hit {
     Ping,

@@ -10,8 +10,8 @@ use std::alloc::AllocGlobal;
 use std::random::RandomSource;
 use std::sync::Wait;
 
-/// The value of a cell, which is made where nobody asked before. Who asks with a token that knows the
-/// value is told that one. It waits for whoever makes the value.
+/// The value of a cell, which is made if nobody asked before. A caller whose token knows the value is
+/// told that one. It waits for the task that makes the value.
 pub fn ask<'a, T: Drop, F, R>(
     rt: &'a R,
     lazy: &'a Lazy<T, F>,

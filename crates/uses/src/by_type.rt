@@ -1,4 +1,4 @@
-//! A value whose type has a fact, so that whoever reads the cell knows it.
+//! A value whose type has a fact, so that each reader of the cell knows it.
 ghost use Rattle.std.specs.Prelude.{◌≡◌, ◌*◌, ◌^◌, ◌<◌, IfOk, IfSome};
 
 use crate::fault::Fault;
@@ -17,7 +17,7 @@ struct Fetched {
     ghost ten_times: { value ≡ key * 10 },
 }
 
-/// A key and its value, if the cell is filled. Whoever filled it, the value is ten times the key.
+/// A key and its value, if the cell is filled. Whatever filled it, the value is ten times the key.
 fn look(cell: &OnceCell<Fetched>) -> Option<(u64, u64)>
     ensures { IfSome result (λ seen. seen.1 ≡ seen.0 * 10) }
 {

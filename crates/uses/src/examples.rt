@@ -11,7 +11,7 @@ use std::fmt::Debug;
 use std::random::RandomSource;
 use std::sync::Wait;
 
-/// A cell and a lazy cell, each filled by the first who asks.
+/// A cell and a lazy cell, each filled by the first that asks.
 fn filled<R>(rt: &R) -> Result<[u64; 3], Fault>
 where
     R: Wait + RandomSource + AllocGlobal,

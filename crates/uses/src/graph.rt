@@ -17,7 +17,7 @@ use std::sync::Wait;
 /// The value at a node, or why one below it was refused.
 type Value = Result<u64, Refused>;
 
-/// The value at a node. Who asks with a token that knows it is told the same.
+/// The value at a node. A caller whose token knows it is told the same.
 fn value_of<'a, F, R>(
     rt: &'a R,
     node: &'a Lazy<Value, F>,
@@ -34,7 +34,7 @@ where
     Ok((*ask(rt, node, token)?)?)
 }
 
-// The value at a node, as one is told who knew nothing of it.
+// The value at a node, as a caller is told that knew nothing of it.
 fn asked<'a, F, R>(rt: &'a R, node: &'a Lazy<Value, F>) -> Result<u64, Fault>
 where
     F: Future<Output = Value>,

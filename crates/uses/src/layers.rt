@@ -1,4 +1,4 @@
-//! A lazy cell over another. The types of the values say what the futures give, so whoever asks knows the value.
+//! A lazy cell over another. The types of the values say what the futures give, so a caller that asks knows the value.
 ghost use Rattle.std.specs.Prelude.{◌≡◌, IfOk};
 
 use crate::fault::Fault;

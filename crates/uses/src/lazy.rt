@@ -36,7 +36,7 @@ where
 }
 
 /// The value of a cell, if a poll of this future answers it. The future tells the token that the cell is set, so a look
-/// by the token finds the value. Nobody who waits is forgotten in what the future has seen.
+/// by the token finds the value. No waiter is forgotten in what the future has seen.
 fn looked_after_poll<'a, F, R>(
     future: &mut LazyFuturePin<'a, u64, F, R>,
     lazy: &'a Lazy<u64, F>,

@@ -68,7 +68,7 @@ where
     told_once_it_left(&mut holder, &mut waiter, cx)
 }
 
-/// What the only one who asks a cell is told, if another leaves it that was never polled.
+/// What a future is told once the only other one, which was never polled, has left the cell.
 fn told_to_one<R>(rt: &R, cx: &mut Context<'_>) -> Option<u64>
 where
     R: Wait + AllocGlobal,
@@ -84,7 +84,7 @@ where
     }
 }
 
-/// Prints what those are told who stay.
+/// Prints what those that stay are told.
 pub fn show<R, O>(rt: &R, output: &mut O) -> Result<(), Fault>
 where
     R: Wait + RandomSource + AllocGlobal,

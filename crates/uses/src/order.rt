@@ -1,4 +1,4 @@
-//! What a caller can say of order: whoever asks after a token has seen that the cell is set is answered a value.
+//! What a caller can say of order: once a token has seen that the cell is set, all that ask later are answered a value.
 ghost use Rattle.std.specs.Prelude.{◌≡◌, IfSome, false};
 ghost use Rattle.async_once_cell.specs.Polls.{IsValue, IsValueAtOnce};
 ghost use Rattle.async_once_cell.specs.Tokens.{IsSetIn};
@@ -49,7 +49,7 @@ where
     Future::poll(future, cx)
 }
 
-/// Whoever finds the value by a look, and only then makes a future, is answered a value by its first poll.
+/// A caller that finds the value by a look, and only then makes a future, is answered a value by its first poll.
 fn polled_after_look<'a, R>(
     rt: &'a R,
     cell: &'a OnceCell<u64>,
@@ -118,7 +118,7 @@ where
     Ok([polled, executed, waited])
 }
 
-/// What two tasks of a new cell are told, and then those who ask it later. Prints that.
+/// What two tasks of a new cell are told, and then those that ask it later. Prints that.
 pub fn show<R, O>(rt: &R, output: &mut O) -> Result<(), Fault>
 where
     R: Wait + RandomSource + AllocGlobal,

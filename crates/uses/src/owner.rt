@@ -77,7 +77,7 @@ fn gets_what_it_saw(cell: &mut OnceCell<u64>) -> Option<(u64, Option<u64>)>
     Some((saw, cell.get().copied()))
 }
 
-/// What is written to a cell that is set stands there, whoever set it.
+/// What is written to a cell that is set stands there, whatever set it.
 fn writes(cell: &mut OnceCell<u64>, value: u64) -> bool
     ensures { result ≡ true → cell.new ≡ Owned value }
 {

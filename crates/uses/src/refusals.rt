@@ -1,4 +1,4 @@
-//! Who is told no value: a poll that is refused, and whoever looks before the value is set. And that one init runs at a
+//! What answers no value: a poll that is refused, and a look before the value is set. And that one init runs at a
 //! time.
 ghost use Rattle.std.specs.Prelude.{◌≡◌, ℕ, ◌∷◌, IsNone, IsSome, None, false, reverse, true};
 ghost use Rattle.async_once_cell.specs.Cell.{Held, cell as cell_after};
@@ -39,7 +39,7 @@ where
     }
 }
 
-/// What a look finds. Nobody finds a value before it is set, and whoever finds none had not seen that it is set.
+/// What a look finds. No look finds a value before it is set, and a token that finds none had not seen that it is set.
 fn looked<'a>(cell: &'a OnceCell<u64>, token: &mut Known<'a, u64>) -> Option<u64>
     requires token_of_this_cell { token.old.cell ≡ cell.now }
     ensures cell { token.new.cell ≡ token.old.cell }

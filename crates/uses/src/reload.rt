@@ -35,7 +35,7 @@ impl Table {
         self.cells.get(key).ok_or(Fault::Empty)
     }
 
-    // Gives back what was loaded for a key. Who asks next loads it anew.
+    // Gives back what was loaded for a key. The next caller loads it anew.
     fn unload(&mut self, key: usize) -> Result<Option<u64>, Fault> {
         let cell = self.cells.get_mut(key).ok_or(Fault::Empty)?;
         Ok(cell.take())

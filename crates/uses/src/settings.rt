@@ -93,8 +93,8 @@ fn number_of(text: &str, name: &str) -> Option<u64> {
         .ok()
 }
 
-/// What a file says. It is read at the first call alone: who asks with a token that knows is told the
-/// same, also where the file could not be read.
+/// What a file says. It is read at the first call alone: a caller whose token knows the outcome is told the
+/// same, also if the file could not be read.
 pub fn settings_of<'v, R>(
     rt: &'v R,
     lazy: &'v Lazy<Outcome, Reading<'_, R>>,
@@ -110,7 +110,7 @@ where
     Ok(*ask(rt, lazy, token)?)
 }
 
-// What one who asks twice is told of a file.
+// What a caller that asks twice is told of a file.
 fn told_twice<'v, R>(rt: &'v R, lazy: &'v Lazy<Outcome, Reading<'_, R>>) -> Result<Outcome, Fault>
 where
     R: Files + Wait + RandomSource + AllocGlobal,
@@ -130,7 +130,7 @@ fn show_outcome<O: Write>(output: &mut O, path: &str, outcome: Outcome) -> io::R
     }
 }
 
-// What one who asks twice is told of the file at this path.
+// What a caller that asks twice is told of the file at this path.
 fn told_of<R>(rt: &R, path: &str, reads: &Cell<u64>) -> Result<Outcome, Fault>
 where
     R: Files + Wait + RandomSource + AllocGlobal,

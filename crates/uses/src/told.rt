@@ -1,4 +1,4 @@
-//! What those who asked one cell can say of each other, by what they have seen of its record.
+//! What callers that asked one cell can say of each other, by what they have seen of its record.
 ghost use Rattle.std.specs.Prelude.{◌≡◌, ◌≢◌, ℕ, true, List, ◌∷◌, ◌++◌, Some, reverse};
 ghost use mathlib.Core.List.{IsPrefix};
 ghost use Rattle.async_once_cell.specs.Record.{End, Entry, Error, Once, RanError};
@@ -13,7 +13,7 @@ use futures::future::{Ready, ready};
 use std::alloc::AllocGlobal;
 use std::sync::Wait;
 
-/// Who was told that there is no value was told so before it was set. It does nothing.
+/// A caller that was told that there is no value was told so before it was set. It does nothing.
 pub fn told_before<'a, T>(without: &Known<'a, T>, with: &Known<'a, T>)
     requires one_cell { without.now.cell ≡ with.now.cell }
     requires unset { IsSetIn without.now.cell without.now.log → ⊥ }
@@ -35,7 +35,7 @@ pub fn told_alone<T>(token: &Known<'_, T>)
 }
 
 /// While the cell is free and a task of it waits, some task was woken that has neither claimed since nor left:
-/// whoever runs the tasks of a cell has one to poll. It does nothing.
+/// an executor that runs the tasks of a cell has one to poll. It does nothing.
 pub fn one_is_called<T>(token: &Known<'_, T>)
     ensures { is_shared token.now.cell ≡ true → SomebodyCalled Once (reverse token.now.log) }
 {

@@ -86,7 +86,7 @@ impl Mark {
 #[derive(Drop)]
 pub struct Hand {
     pub(super) seen: Record,
-    // Whoever has the pen may turn the page, so nobody outside of `inner` has it.
+    // Code that has the pen may turn the page, so no code outside of `inner` has it.
     pub(super) pens: CellPens,
     pub ghost book_is: { pens.book ≡ seen.book },
     pub ghost is_hand: { IsHand seen.log pens.held },

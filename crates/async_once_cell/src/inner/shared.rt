@@ -152,7 +152,7 @@ impl<T, W: TaskWaker + Drop, V: Fits<T>> Inner<T, W, V> {
         self.word.load::<Act, Act>(&Act::Look, seen, &mut none)
     }
 
-    /// The value, for whoever has what shows it.
+    /// The value, for a caller that has what shows it.
     ///
     /// ```
     /// if let Some(written) = written {
@@ -249,7 +249,7 @@ pub struct Shared<'a, 'r, T, W: TaskWaker, R, V: Fits<T> = Anything> {
     pub(super) inner: &'a Inner<T, W, V>,
     pub(super) rt: &'r R,
     pub(super) hand: Hand,
-    // Where the next call of a `Task` begins. Whoever makes single steps keeps that by itself.
+    // Where the next call of a `Task` begins. Code that makes single steps keeps that by itself.
     pub(super) idle: Idle,
     ghost fits: { hand.seen.book ≡ inner.now.front.book },
 }

@@ -289,7 +289,7 @@ impl<F: Future, V: Fits<F::Output>> Model for Promised<F, V> {
     ghost invariant = { λ p. (v : F.Output) → MayGive F.gives p.0 v → (about : List ℕ) → V.fits about v };
 }
 
-// The future of a cell, as whoever holds the right drives it on. To drop this leaves it as it is.
+// The future of a cell, as the task that holds the right drives it on. To drop this leaves it as it is.
 #[derive(Drop)]
 pub(crate) struct Driven<'a, F: Future, R, V: Fits<F::Output>> {
     rt: &'a R,

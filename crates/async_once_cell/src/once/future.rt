@@ -234,7 +234,7 @@ impl<'a, T, X, I: Yields<T, X>, R: Wait + AllocGlobal, V: Fits<T>> Initializing<
     }
 
     /// Leaves the cell as by a drop, which can have no contract: the init is dropped, and then the task gives the right
-    /// back, or leaves those who wait. Then the future is finished. It may wait for the lock of the cell.
+    /// back, or leaves those that wait. Then the future is finished. It may wait for the lock of the cell.
     ///
     /// ```
     /// holder.leave();

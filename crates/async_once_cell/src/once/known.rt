@@ -30,8 +30,8 @@ pub(super) enum Seen<T> {
 
 /// What its holder has learned of one cell: the cell's value, if it knows it, and the record as far as it was seen. A
 /// token learns the value from a call that answers it, [`OnceCell::get_as`] or the `poll_as` of a future, or a future
-/// tells it the value that it answered. From then on each such call answers that value: the contracts say so. Whoever
-/// passes a token on passes on what it knows. A token borrows its cell, so the cell's owner makes no call meanwhile.
+/// tells it the value that it answered. From then on each such call answers that value: the contracts say so. To pass
+/// a token on passes on what it knows. A token borrows its cell, so the cell's owner makes no call meanwhile.
 #[derive(Drop)]
 pub struct Known<'a, T, V: Fits<T> = Anything> {
     cell: &'a OnceCell<T, V>,
@@ -109,7 +109,7 @@ impl<'a, T, V: Fits<T>> Known<'a, T, V> {
 
     /// It does nothing. Its contract is about the record of a cell that tasks share. The record is a run of the cell,
     /// and at each of its beginnings somebody was woken if somebody had to be. If the cell is set in it, it has a
-    /// Fill, and nobody who waits is forgotten. Each task polls its init once at most in each of its calls.
+    /// Fill, and no waiter is forgotten. Each task polls its init once at most in each of its calls.
     ///
     /// ```
     /// token.is_run();

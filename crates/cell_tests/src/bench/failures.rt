@@ -1,7 +1,7 @@
 //! The loops of inits that fail, as in `rounds`. An error counts as its number, which is 1.
 //!
-//! Those who wait are polled if they were woken, and not else: a failure wakes the one that is
-//! listed longest.
+//! A future that waits is polled only if it was woken: a failure wakes the one that is listed
+//! longest.
 use crate::bench::switch::Failing;
 use async_once_cell::OnceCell;
 use async_once_cell::once::{InitError, TryInitFuture};
@@ -12,7 +12,7 @@ use std::sync::Wait;
 
 type Trying<'a, R> = TryInitFuture<'a, u64, u64, Failing, R>;
 
-// So many futures, each polled once: the first holds where no other does, and the others wait.
+// So many futures, each polled once: the first holds if no other does, and the others wait.
 fn polled<'a, R: Wait + AllocGlobal>(
     rt: &'a R,
     cell: &'a OnceCell<u64>,
@@ -40,7 +40,7 @@ fn waiting<'a, R: Wait + AllocGlobal>(
     polled(rt, cell, number, cx)
 }
 
-/// A new holder gets the right, whoever was woken waits again, and the holder fails.
+/// A new holder gets the right, the waiter that was woken waits again, and the holder fails.
 #[inline(never)]
 pub fn failures<R: Wait + AllocGlobal>(
     rt: &R,
@@ -76,7 +76,7 @@ fn failure<'a, R: Wait + AllocGlobal>(
     sum.wrapping_add(number_of(Future::poll(&mut holder, cx)))
 }
 
-/// A holder fails, and then each who waits, in its turn.
+/// A holder fails, and then each waiter, in its turn.
 #[inline(never)]
 pub fn turns<R: Wait + AllocGlobal>(
     rt: &R,
@@ -117,7 +117,7 @@ fn poll_twice<R: Wait + AllocGlobal>(waiters: &mut [Trying<'_, R>], cx: &mut Con
     sum
 }
 
-/// The value or the error of a poll, and 0 where it is pending or refused.
+/// The value or the error of a poll, and 0 if it is pending or refused.
 fn number_of(polled: Poll<Result<&u64, InitError<u64>>>) -> u64 {
     match polled {
         Poll::Ready(Ok(value)) => *value,

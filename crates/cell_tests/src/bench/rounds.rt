@@ -1,6 +1,6 @@
 //! The loops: each makes one operation so many times, and gives the sum of the values.
 //!
-//! Each is a function of its own, and is passed its cell where that is set before the loop, so that
+//! Each is a function of its own, and is passed its cell if that is set before the loop, so that
 //! nothing of it is known to the compiler there.
 use crate::bench::failures::{failures, turns};
 use crate::bench::lost_wake::lost;
@@ -28,9 +28,9 @@ use std::thread::Threads;
 /// - `listed`: a poll of a future that waits and is listed already
 /// - `waiters10`: a new cell: one future holds, 10 wait, the holder sets the cell, and each that waits is polled to its
 ///   end
-/// - `drops10`: a new cell: one future holds, 10 wait, and all are dropped, those who wait first
-/// - `failure10`: 10 wait: a new future gets the right, whoever the failure before woke is polled and waits again, and
-///   the new future fails
+/// - `drops10`: a new cell: one future holds, 10 wait, and all are dropped, those that wait first
+/// - `failure10`: 10 wait: a new future gets the right, the one that the failure before woke is polled and waits
+///   again, and the new future fails
 /// - `turns10`: a new cell: one future holds, 10 wait; the holder fails, and then each of them, once it was woken and
 ///   its init was pending once
 /// - `get_threads2` and `get_threads4`: so many threads look at a cell that is set
@@ -271,7 +271,7 @@ fn one_lazy<R: Wait + AllocGlobal>(
     value_of(Future::poll(&mut future, cx))
 }
 
-/// The value of a poll, and 0 where it is pending or refused: a sum that is too small tells of it.
+/// The value of a poll, and 0 if it is pending or refused: a sum that is too small tells of it.
 fn value_of<E: Drop>(polled: Poll<Result<&u64, E>>) -> u64 {
     match polled {
         Poll::Ready(Ok(value)) => *value,

@@ -55,7 +55,7 @@ where
     Ok(value_of(cell.get_or_init(rt, ready(1)).wait()?))
 }
 
-/// The value of an answer, and 0 where there is none.
+/// The value of an answer, and 0 if there is none.
 fn value_of(answer: Result<&u64, Refused>) -> u64 {
     answer.copied().unwrap_or(0)
 }

@@ -49,7 +49,7 @@ impl Future for Looks<'_> {
 }
 
 /// An init that polls a second future of its cell once, looks at the cell, and drops that future. It
-/// gives 6 where that was Pending and the cell empty, else 1. The init of the second does as the stub
+/// gives 6 if that was Pending and the cell empty, else 1. The init of the second does as the stub
 /// says.
 #[derive(Drop)]
 pub struct Within<'a, R> {
@@ -73,8 +73,8 @@ fn text<T: fmt::Debug>(alloc: Global, value: &T) -> Result<String, AllocError> {
     format!(in alloc; "{value:?}")
 }
 
-// The kit knows that an init outlives the loan of its lazy cell where the init is a type parameter, as it is
-// here, and not where it is a type that borrows.
+// The kit knows that an init outlives the loan of its lazy cell if the init is a type parameter, as it is
+// here, and not if it is a type that borrows.
 fn lazy_text<F: Future, R: Wait + AllocGlobal>(
     alloc: Global,
     future: &LazyFuturePin<'_, u64, F, R>,

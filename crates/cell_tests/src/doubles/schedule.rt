@@ -6,7 +6,7 @@
 //! dropped, and `found` says whether that showed TEXT. `within T` makes one whose init polls a second
 //! future of its cell. `drop T` and `forget T` put an end to future T.
 //!
-//! `poll T A` polls it by task T, `poll T A W` by task W; where its init is polled, it answers A: `p`,
+//! `poll T A` polls it by task T, `poll T A W` by task W; if its init is polled, it answers A: `p`,
 //! `v` with a value, or `e` with an error. `show` and `lazy` are the Debug texts of the cells, `future T`
 //! that of a future, and `inits` how often inits were polled and dropped. After `starve` every request
 //! for memory is refused while a line is obeyed. After `=>` stands what the poll answered, whether the
@@ -111,7 +111,7 @@ impl Tasks {
     }
 }
 
-// The tasks that were woken. Where one and those after it were, the first and the last stand for them.
+// The tasks that were woken. If several in a row were, the first and the last stand for them.
 impl fmt::Display for Tasks {
     fn fmt<W: fmt::Write>(&self, f: &mut fmt::Formatter<W>) -> fmt::Result {
         let mut before = false;
@@ -377,8 +377,8 @@ impl<'a, 'i: 'a, R: Wait + AllocGlobal> Schedule<'a, 'i, R> {
         }
     }
 
-    // `T A` or `T A W`: polls future T by the task of its number or by task W, where an init that is
-    // polled answers A.
+    // `T A` or `T A W`: polls future T by the task of its number or by task W. An init that is polled
+    // then answers A.
     fn poll(&mut self, text: &str) -> Outcome {
         let (number, rest) = text.split_once(' ').unwrap_or((text, ""));
         let (answer, task) = rest.split_once(' ').unwrap_or((rest, number));
@@ -401,7 +401,7 @@ fn turns_in(text: &str) -> Option<(usize, usize)> {
     Some((from.parse().ok()?, to.parse().ok()?))
 }
 
-// All memory, where a schedule starves.
+// All memory, if a schedule starves.
 fn hoarded(alloc: Global, starves: bool) -> Result<Option<Vec<Vec<u8>>>, AllocError> {
     if starves {
         return Ok(Some(hoard(alloc)?));
@@ -486,7 +486,7 @@ where
     Ok(())
 }
 
-// Runs a schedule, and looks at what is left where its last line asks for it.
+// Runs a schedule, and looks at what is left if its last line asks for it.
 fn run_one<R>(rt: &R, name: &str, lines: &str) -> Result<(), Fail>
 where
     R: Wait + AllocGlobal + RandomSource,
@@ -512,7 +512,7 @@ fn named(part: &str) -> (&str, &str) {
 
 /// Runs the schedules of a text, each over cells of its own. An empty line stands between two, and `# NAME` or
 /// `# NAME: WHAT IT IS ABOUT` before the lines of each. Each line must lead to what stands after its `=>`, or wake
-/// nobody where nothing stands there. `A..B * ` before a line stands for such lines at the numbers from A to B - 1,
+/// nobody if nothing stands there. `A..B * ` before a line stands for such lines at the numbers from A to B - 1,
 /// by which each `n` is read, and `N * ` for N of them.
 pub fn run<R>(rt: &R, schedules: &str) -> Result<(), Fail>
 where

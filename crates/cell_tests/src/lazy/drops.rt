@@ -12,7 +12,7 @@ use std::cell::Cell;
 use std::sync::Wait;
 use std::test::Fail;
 
-/// A cell drops its future at its own end, where nobody had its value.
+/// A cell drops its future at its own end, if nobody had its value.
 #[test]
 fn unused_future_dropped(rt: HostRuntime) {
     let stub: Stub<u64> = Stub::new();

@@ -1,4 +1,4 @@
-//! The calls of whoever has the cell alone.
+//! The calls of the cell's owner.
 
 use crate::doubles::poll::polled;
 use crate::doubles::stub::{Init, Stub};

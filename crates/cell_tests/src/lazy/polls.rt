@@ -1,4 +1,4 @@
-//! Who drives the future of a cell, and what the others get, as schedules of polls and drops.
+//! Which task drives the future of a cell, and what the others get, as schedules of polls and drops.
 
 use crate::doubles::schedule::{refuse_each, run, run_in_little};
 use std::test::Fail;

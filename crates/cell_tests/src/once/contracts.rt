@@ -17,7 +17,7 @@ use std::alloc::AllocGlobal;
 use std::sync::Wait;
 use std::test::Fail;
 
-// What a token answers to two looks, where the first finds a value.
+// What a token answers to two looks, if the first finds a value.
 fn asked_twice<'a>(
     cell: &'a OnceCell<u64>,
     token: &mut Known<'a, u64>,

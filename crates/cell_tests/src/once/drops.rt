@@ -80,7 +80,7 @@ fn poll_rationed<'d, R: Wait + AllocGlobal>(
     rations.end(held)
 }
 
-// A future waits while another holds, with this ration of memory. The other is dropped, and the one who waits,
+// A future waits while another holds, with this ration of memory. The other is dropped, and the one that waits,
 // or a third, makes a value. Whether it did, and how often it was dropped before its cell was, and with it.
 fn made_after<R: Wait + AllocGlobal>(
     rt: &R,
@@ -107,7 +107,7 @@ fn made_after<R: Wait + AllocGlobal>(
     Ok((is_held && is_made, [before, drops.get()]))
 }
 
-/// A value is dropped once, whichever request for memory is refused to one who waits.
+/// A value is dropped once, whichever request for memory is refused to a waiter.
 #[test]
 fn value_dropped_once_where_memory_is_refused(rt: HostRuntime) -> Result<(), Fail> {
     let tasks = [

@@ -1,4 +1,4 @@
-//! Inits that use another future of their cell: where they are polled, and where they are dropped.
+//! Inits that use another future of their cell: when they are polled, and when they are dropped.
 
 use crate::doubles::poll::polled;
 use crate::doubles::stub::Tried;
@@ -64,7 +64,7 @@ impl<'a, 't, R: Wait + AllocGlobal> Other<'a, 't, R> {
         }
     }
 
-    // Whoever polls the future takes it out, so that the lock is free meanwhile.
+    // Takes the future out, so that the lock is free while it is polled or dropped.
     fn take_out(&self) -> Option<InitFuture<'a, u64, Later, R>> {
         self.future.lock(self.rt).take()
     }
@@ -97,7 +97,7 @@ struct Plan {
     // At its second, which has this answer.
     then: Act,
     answer: Tried,
-    // Where it is dropped.
+    // When it is dropped.
     at_drop: Act,
 }
 
@@ -112,7 +112,7 @@ impl Plan {
         }
     }
 
-    // To give 6, and to do this where it is dropped.
+    // To give 6, and to do this when it is dropped.
     fn with_at_drop(act: Act) -> Plan {
         let plan = Plan::to_answer(Ok(6));
         Plan {
@@ -241,7 +241,7 @@ fn drops_who_waits(rt: HostRuntime) -> Result<(), Fail> {
     Ok(())
 }
 
-/// An init that gave its value polls another future where it is dropped: the right is held still, and
+/// An init that gave its value polls another future when it is dropped: the right is held still, and
 /// the other waits. The value wakes it.
 #[test]
 fn polls_another_when_it_is_done(rt: HostRuntime) -> Result<(), Fail> {
@@ -287,7 +287,7 @@ fn polls_another_when_its_future_is_dropped(rt: HostRuntime) -> Result<(), Fail>
 }
 
 /// The init of a future that waits is dropped with it, and polls the holder, which fills the cell and
-/// wakes all who are listed. Then the future leaves, the last to do so.
+/// wakes all that are listed. Then the future leaves, the last to do so.
 #[test]
 fn leaves_after_the_value(rt: HostRuntime) -> Result<(), Fail> {
     let scene = Scene::new(&rt)?;
@@ -307,7 +307,7 @@ fn leaves_after_the_value(rt: HostRuntime) -> Result<(), Fail> {
     Ok(())
 }
 
-/// The same, where the holder is dropped in place of that: it wakes the one who leaves, which passes its
+/// The same, but the holder is dropped and not polled: it wakes the one that leaves, which passes its
 /// turn on to the next.
 #[test]
 fn called_while_it_leaves(rt: HostRuntime) -> Result<(), Fail> {

@@ -1,4 +1,4 @@
-//! In which order a value wakes those who wait.
+//! In which order a value wakes those that wait.
 
 use crate::doubles::stub::Stub;
 use async_once_cell::OnceCell;

@@ -1,4 +1,4 @@
-//! The calls of whoever has the cell alone.
+//! The calls of the cell's owner.
 
 use crate::doubles::poll::heard;
 use crate::doubles::stub::Stub;
@@ -93,7 +93,7 @@ const HELD: [&str; 2] = [
     "OnceCell { value: None, inner: Inner { ready: false, quick_init: true, refcount: 1, queue: true } }",
 ];
 
-/// A cell that is not set is left as it is by who would write its value, whoever was forgotten there.
+/// A cell that is not set is left as it is by `get_mut`, whichever futures were forgotten there.
 #[test]
 fn nothing_to_write_beside_a_holder(rt: HostRuntime) -> Result<(), Fail> {
     let (task, stub) = (MockTask::new(&rt)?, Stub::<u64>::new());

@@ -3,7 +3,7 @@
 use crate::doubles::schedule::{refuse_each, run, run_in_little};
 use std::test::Fail;
 
-// Schedules over a `OnceCell`. Who leaves the list lets its waker go, which wakes its task.
+// Schedules over a `OnceCell`. A waiter that leaves the list lets its waker go, which wakes its task.
 const SCHEDULES: &str = "\
 # plain_path
 show => OnceCell { value: None, inner: Inner { ready: false, quick_init: false, refcount: 0, queue: false } }

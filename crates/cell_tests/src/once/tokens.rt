@@ -69,7 +69,7 @@ fn poll_knowing<'a, R: Wait + AllocGlobal>(
 }
 
 // A future waits until another has set the value, and is polled with a token that knows it. What the
-// last polls answered, and whether one task was counted between them. Where a first poll was ready, it
+// last polls answered, and whether one task was counted between them. If a first poll was ready, it
 // stops, and says that none was.
 fn leave_with_a_token<'a, R: Wait + AllocGlobal + Eprint>(
     rt: &'a R,

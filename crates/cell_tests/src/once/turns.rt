@@ -1,4 +1,4 @@
-//! A failure wakes one of those who wait, and who was woken and leaves passes its turn on.
+//! A failure wakes one waiter, and a waiter that was woken and leaves passes its turn on.
 
 use crate::doubles::schedule::{refuse_each, run, run_in_little};
 use std::test::Fail;

@@ -62,7 +62,7 @@ where
     Ok(*Service::new().value(rt)?)
 }
 
-/// An empty cell answers the value of the init that was given, also where the init borrows and is
+/// An empty cell answers the value of the init that was given, also if the init borrows and is
 /// Pending a few times; a set one answers what is set. Each init is done once.
 #[test]
 fn value_of_each_kind(rt: HostRuntime) -> Result<(), Fail> {
@@ -256,7 +256,7 @@ fn no_poll_that_nobody_called_for(rt: HostRuntime) -> Result<(), Fail> {
     Ok(())
 }
 
-// Whether a wait for an empty cell is refused where all memory is taken, and what a set one answers.
+// Whether a wait for an empty cell is refused while all memory is taken, and what a set one answers.
 fn told_without_memory<'a, R>(
     rt: &'a R,
     empty: &'a OnceCell<u64>,
@@ -272,7 +272,7 @@ where
     Ok((is_refused, told))
 }
 
-// What a set cell answers to a wait by a parker that was made before, where all memory is taken.
+// What a set cell answers to a wait by a parker that was made before, while all memory is taken.
 fn told_by_a_kept_parker<R>(
     rt: &R,
     set: &OnceCell<u64>,

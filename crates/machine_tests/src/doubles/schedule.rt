@@ -15,7 +15,7 @@ use std::test::Fail;
 #[derive(Drop)]
 pub struct Schedule<'a> {
     name: &'a str,
-    // How many such lines there are, where it is one of several.
+    // How many such lines there are, if it is one of several.
     times: Option<usize>,
     pub lines: Vec<Line<'a>>,
 }
@@ -27,7 +27,7 @@ pub struct Line<'a> {
     pub added: &'a str,
 }
 
-// What is wanted where a schedule has no line.
+// What is wanted if a schedule has no line.
 const NO_LINE: Line<'static> = Line {
     order: "",
     added: "",
@@ -91,7 +91,7 @@ fn add<'a>(
     Ok(())
 }
 
-// The numbers and the line of `A to B * LINE`, where B is not below A.
+// The numbers and the line of `A to B * LINE`, if B is not below A.
 fn repeated(text: &str) -> Option<(usize, usize, &str)> {
     let (numbers, line) = text.split_once(" * ")?;
     let (least, most) = numbers.split_once(" to ")?;
@@ -165,7 +165,7 @@ impl Schedule<'_> {
         Ok(None)
     }
 
-    /// Fails with what that says, where a line led to something else.
+    /// Fails with what that says, if a line led to something else.
     pub fn check(&self, alloc: Global, came: &[String]) -> Result<(), Fail> {
         match self.difference(alloc, came)? {
             None => Ok(()),

@@ -1,4 +1,4 @@
-//! A writer that fails where a test says so.
+//! A writer that fails when a test says so.
 
 use std::alloc::Global;
 use std::io;

@@ -4,7 +4,7 @@ use std::alloc::AllocGlobal;
 use std::fmt::Debug;
 use std::io::Eprint;
 
-/// Whether a value's Debug text ends so. Where it does not, the text is printed.
+/// Whether a value's Debug text ends so. If it does not, the text is printed.
 pub fn shows<R: AllocGlobal + Eprint>(rt: &R, value: &impl Debug, wanted: &str) -> bool {
     let Ok(text) = format!(in rt.alloc(); "{value:?}") else {
         return false;

@@ -33,8 +33,8 @@ enum Act {
     Leave,
 }
 
-/// A side that uses another task of its cell where its init is polled, where its bell is copied, and
-/// where it wakes others. A clause sees what is told of it.
+/// A side that uses another task of its cell when its init is polled, when its bell is copied, and
+/// when it wakes others. A clause sees what is told of it.
 #[derive(Drop)]
 struct Meddling<'a, 'r, R> {
     side: TestSide<'r, R>,
@@ -115,7 +115,7 @@ impl<'a, 'r, R: Wait + AllocGlobal> Meddling<'a, 'r, R> {
         self.at_wake = Act::Poll;
     }
 
-    // It drops the other task where its bell is to be copied, and has no memory for a copy.
+    // It drops the other task when its bell is to be copied, and has no memory for a copy.
     fn leaves_in_a_copy(&mut self)
         ensures { self.new ≡ self.old }
     {
@@ -123,7 +123,7 @@ impl<'a, 'r, R: Wait + AllocGlobal> Meddling<'a, 'r, R> {
         self.side.refuse_copies();
     }
 
-    // Does this to the other task, where that is not finished.
+    // Does this to the other task, if that is not finished.
     fn obey(&mut self, act: Act)
         ensures { self.new ≡ self.old }
     {
@@ -297,7 +297,7 @@ fn a_copy_that_polls(rt: HostRuntime) -> Result<(), Fail> {
     Ok(())
 }
 
-// An init polls another task, which waits. The holder gives its value and wakes who waits, and the other
+// An init polls another task, which waits. The holder gives its value and wakes the other, which
 // is polled inside that wake.
 #[test]
 fn an_init_and_a_wake_that_poll(rt: HostRuntime) -> Result<(), Fail> {
@@ -316,7 +316,7 @@ fn an_init_and_a_wake_that_poll(rt: HostRuntime) -> Result<(), Fail> {
     Ok(())
 }
 
-// The same where the init fails: the right is free when the other is woken, and it takes the right.
+// The same if the init fails: the right is free when the other is woken, and it takes the right.
 #[test]
 fn a_wake_that_takes_the_right(rt: HostRuntime) -> Result<(), Fail> {
     let cell = Cell::new();

@@ -16,7 +16,7 @@ use std::random::RandomSource;
 use std::snapshot::Snapshot;
 use std::sync::Wait;
 
-/// The names of the first three who are woken, in their order.
+/// The names of the first three that are woken, in their order.
 pub type Called = [Option<u64>; 3];
 
 /// Nobody is woken.

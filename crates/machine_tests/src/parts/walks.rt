@@ -42,7 +42,7 @@ pub struct Caller<'a, 'r, R> {
 }
 
 impl<'a, 'r, R: Wait + AllocGlobal> Caller<'a, 'r, R> {
-    // A new task of this name, whose init answers so. Where that gives a value, it gives the name.
+    // A new task of this name, whose init answers so. If that gives a value, it gives the name.
     pub fn new(cell: &'a Cell, rt: &'r R, name: u64, answer: Polled) -> io::Result<Self>
     where
         R: RandomSource,
@@ -78,7 +78,7 @@ impl<'a, 'r, R: Wait + AllocGlobal> Caller<'a, 'r, R> {
         Some(self.poll())
     }
 
-    // The value that a poll gives. None where it gives none, or the task was finished.
+    // The value that a poll gives. None if it gives none, or if the task was finished.
     pub fn gets(&mut self) -> Option<u64> {
         if self.task.is_finished() {
             return None;

@@ -484,7 +484,7 @@ fn judge_record_ends_with_the_status_of_its_verdict(rt: HostRuntime) -> Result<(
     Ok(())
 }
 
-// A record in which a failure wakes both who wait.
+// A record in which a failure wakes both waiters.
 const WAKES_TWO: &str = "\
 once 8\nmade 1\nmade 2\nmade 3\nbegin 1 5\nclaim 1\nran 1 p\nend 1 p\nbegin 2 7\nend 2 p\nbegin 3 8\nend 3 p\n\
 begin 1 5\nran 1 e9\nfree 1 [7 8]\n";

@@ -425,7 +425,7 @@ const WRITERS: [(usize, u64, bool, Result<(), Fault>); 6] = [
 ];
 
 // What a run answers over a writer, and whether what it wrote is a beginning of this text, and all
-// of it where the run answers so.
+// of it if the run did not fail.
 fn written(
     alloc: Global,
     text: &str,
@@ -514,7 +514,7 @@ impl Write for Counter {
     }
 }
 
-// A holder, and two who wait: one is dropped, and the other takes over.
+// A holder, and two that wait: one is dropped, and the other takes over.
 const WAITERS: &str =
     "once 8\nmake 1\nmake 2\nmake 3\npoll 1 5\nrun 1 p\npoll 2 7\nrun 2 p\npoll 3 9\nrun 3 p\n\
 drop 1\nrun 1 p\ndrop 2\nrun 2 p\npoll 3 9\nrun 3 v4\n";
@@ -528,7 +528,7 @@ fn within(alloc: Global, text: &str, bytes: usize) -> Result<Ending, AllocError>
     Ok((answer, printed.bytes))
 }
 
-// How often a run was refused memory, which has a little more each time, before it had enough. None where a run
+// How often a run was refused memory, which has a little more each time, before it had enough. None if a run
 // printed something and was refused, or did not print all.
 fn refusals(alloc: Global, text: &str) -> Result<Option<u64>, Fault> {
     let wanted = printed_by(alloc, text)?.len();

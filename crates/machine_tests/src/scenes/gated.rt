@@ -1,5 +1,5 @@
-//! A copy of a waker that is refused: who waits is refused then, and is neither counted nor listed. A holder copies
-//! none.
+//! A copy of a waker is refused: a task that would wait is then refused too, and is neither counted nor listed. A
+//! holder copies none.
 
 use super::scene::play;
 use std::test::Fail;
@@ -29,7 +29,7 @@ fn a_waiter_whose_copy_is_refused(rt: HostRuntime) -> Result<(), Fail> {
     play(&rt, WAITERS)
 }
 
-// A holder by the quick claim, alone or with one who waits, who gives a value, fails or is dropped.
+// A holder by the quick claim, alone or with a waiter, that gives a value, fails or is dropped.
 const QUICK_HOLDERS: &str = "\
 # quick_value_alone: a quick holder gives a value, and nobody waits
 make 1
@@ -85,7 +85,7 @@ fn a_quick_holder_copies_no_waker(rt: HostRuntime) -> Result<(), Fail> {
     play(&rt, QUICK_HOLDERS)
 }
 
-// A holder that got the right under the lock, with one who waits and then is dropped. The holder gives
+// A holder that got the right under the lock, with one that waits and then is dropped. The holder gives
 // a value, fails or is dropped.
 const LATER_HOLDERS: &str = "\
 # later_value: a later holder gives a value, and calls the one who waits

@@ -1,5 +1,5 @@
-//! A waiter whose copy is refused, or that is dropped, while another waits behind it: whoever had the turn passes it
-//! on, and nobody is stranded. In each scene the third task fills the cell in the end.
+//! A waiter whose copy is refused, or that is dropped, while another waits behind it: if it has the turn, it passes
+//! it on, and nobody is stranded. In each scene the third task fills the cell in the end.
 
 use super::scene::play;
 use std::test::Fail;
@@ -23,7 +23,7 @@ fn refused_before_it_was_listed(rt: HostRuntime) -> Result<(), Fail> {
     play(&rt, BEFORE)
 }
 
-// The same where the one behind it is listed while the call that is refused is under way.
+// The same if the one behind it is listed while the poll that is refused is under way.
 const BESIDE: &str = "\
 # refused_beside_one_who_waits: the third is listed while the poll of the second is under way
 make 1; make 2; make 3
@@ -47,7 +47,7 @@ fn refused_beside_one_who_waits(rt: HostRuntime) -> Result<(), Fail> {
 // The second, the third and the fourth wait. The first fails and wakes the second, and the fifth holds. Now the
 // second is polled, and the copy of its waker is refused; it makes so many steps of that poll before the fifth fails.
 // Polled after that, it gets the right, and is dropped; refused after that, it passes its turn on to the fourth; and
-// where it left before, the turn is the third's alone.
+// if it left before, the turn is the third's alone.
 const CALLED: &str = "\
 # fails_before_a_refusal: the second finds that nobody holds, gets the right, and is dropped
 make 1; make 2; make 3; make 4; make 5

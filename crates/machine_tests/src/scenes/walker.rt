@@ -62,7 +62,7 @@ impl<R: Wait> Walker<'_, '_, R> {
         self.side.take()
     }
 
-    /// Begins a poll, where the task rests.
+    /// Begins a poll, if the task rests.
     pub fn poll(&mut self) {
         if !self.step.is_resting() {
             return;
@@ -73,7 +73,7 @@ impl<R: Wait> Walker<'_, '_, R> {
         (self.told, self.is_drop) = (Progress::More, false);
     }
 
-    /// Begins a drop, where the task rests. `false` says that there is no step to make.
+    /// Begins a drop, if the task rests. `false` says that there is no step to make.
     pub fn begin_drop(&mut self) -> bool {
         if !self.step.is_resting() {
             return false;

@@ -23,7 +23,7 @@ pub(super) struct StepSeen {
     pub ran: Option<Ran>,
     /// By the fast release.
     pub freed: bool,
-    /// By a release under the lock, or by one who left.
+    /// By a release under the lock, or by a waiter that left.
     pub handed: Option<Out<u64>>,
     pub leaving: bool,
     pub progress: Progress,
@@ -74,7 +74,7 @@ impl ReplayCell {
         }
     }
 
-    /// What a look finds: the value, where it is set.
+    /// What a look finds: the value, if it is set.
     pub fn look(&self) -> Option<u64>
         ensures { result ≡ look_value (shared_of self.now) }
     {

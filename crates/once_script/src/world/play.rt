@@ -114,7 +114,7 @@ impl World {
         &self.entries
     }
 
-    /// What all tasks share: the word, the queue at the door, its flag, and who is listed there.
+    /// What all tasks share: the word, the queue at the door, its flag, and its listings.
     pub fn core(&self) -> &Core<u64>
         ensures word { (state_of result.now).word ≡ word_of (world_in self.now).shared }
         ensures door { result.now.door ≡ (world_in self.now).shared.door }
@@ -124,7 +124,7 @@ impl World {
         &self.shared.core
     }
 
-    /// Where a task stands, or None where it was not made.
+    /// Where a task stands, or None if it was not made.
     pub fn step_of(&self, task: u64) -> Option<&Step<u64, u64>>
         ensures { option_copied result ≡ option_map (λ x. x.step) ((world_in self.now).tasks task) }
     {

@@ -4,7 +4,7 @@ use super::{Cell, LastCall, Rules, Status, task_of};
 use once_machine::record::{Call, Entry, Got, Kind, Ran, Reply};
 
 impl Rules<'_> {
-    /// The number of the first entry that may not come next, where the first has 0.
+    /// The number of the first entry that may not come next, counted from 0.
     pub fn first_fault(self, entries: &[Entry]) -> Option<usize> {
         entries.iter().enumerate().position(|(index, entry)| !self.may_follow(
             entry,

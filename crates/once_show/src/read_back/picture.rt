@@ -1,5 +1,5 @@
-//! A picture that is read back: who holds and who waits, which polls and drops are under way, who wakes whom, and what
-//! the cell is.
+//! A picture that is read back: which tasks hold and which wait, which polls and drops are under way, which task wakes
+//! which, and what the cell is.
 //!
 //! Other marks and words, and the legend, are read of no picture at random. Stored pictures are compared whole.
 use super::fault::Fault;

@@ -24,7 +24,7 @@ pub struct Said {
 pub struct Line {
     pub number: u64,
     pub text: String,
-    /// The count, the two flags, the queue, its flag and who is listed.
+    /// The count, the two flags, the queue, its flag and its listings.
     pub shared: Vec<String>,
     /// Where each task stands, of those that were made by then.
     pub stands: Vec<&'static str>,
@@ -73,7 +73,7 @@ pub struct Arrow {
     pub called: Vec<usize>,
 }
 
-/// Who is listed and was not woken: the place of the task, and the waker.
+/// A task that is listed and was not woken: its place, and its waker.
 #[derive(Clone, Copy, PartialEq, Eq)]
 struct Waiting {
     lane: usize,
@@ -141,7 +141,7 @@ impl Story {
         Ok(())
     }
 
-    /// Who is listed and was not woken.
+    /// The tasks that are listed and were not woken.
     fn waiting(&self, world: &World) -> Result<Vec<Waiting>, AllocError> {
         let mut all = Vec::new(self.alloc);
         for listing in &world.core().lists.listings(self.alloc)? {

@@ -93,7 +93,7 @@ enum Choice {
 // Whom a call wakes.
 #[derive(Clone, Copy)]
 enum Woken {
-    // Those who were seen, or nobody.
+    // Those that were seen, or nobody.
     Seen,
     // The one with this waker.
     One(u64),
@@ -106,7 +106,7 @@ enum Woken {
 // How many a call may wake.
 #[derive(Clone, Copy)]
 enum Wakes {
-    // Those who were seen, or nobody.
+    // Those that were seen, or nobody.
     Seen,
     // Nobody or one.
     One,

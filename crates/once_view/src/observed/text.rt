@@ -17,7 +17,7 @@ pub enum Event {
     Entry(Entry),
     /// A call of this task woke this waker.
     Woke(u64, u64),
-    /// The waker of the task's last poll has been woken since that poll ended, whoever woke it.
+    /// The waker of the task's last poll has been woken since that poll ended, whatever woke it.
     Woken(u64),
 }
 

@@ -144,7 +144,7 @@ where
 }
 
 /// Shows the script that the command line names, one of `files` or the input. If that fails, standard error says
-/// why, unless whoever reads the output closed it.
+/// why, unless the reader of the output closed it.
 ///
 /// ```
 /// fn main(rt: HostRuntime) -> ExitCode {

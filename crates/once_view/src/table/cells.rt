@@ -49,8 +49,8 @@ impl fmt::Display for Door {
     }
 }
 
-/// Who is listed: the ticket of each listing with its waker, or with the word that it was called. A long list is cut,
-/// and the cell says how many more there are.
+/// The listings: the ticket of each with its waker, or with the word `called` if its task was woken. A long list is
+/// cut, and the cell says how many more there are.
 pub fn listed_cell(alloc: Global, listed: &Listed) -> Result<String, AllocError> {
     let listings = listed.listings();
     let mut cell = String::new(alloc);

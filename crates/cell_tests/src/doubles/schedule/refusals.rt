@@ -40,7 +40,7 @@ impl<'a, 'i: 'a, R: Wait + AllocGlobal> Schedule<'a, 'i, R> {
         Ok(())
     }
 
-    // A future is polled at first, and then where its task was woken, as an executor does.
+    // A future is polled at first, and then only if its task was woken, as an executor does.
     fn act_rationed(
         &mut self,
         word: &str,
@@ -95,7 +95,7 @@ impl<'a, 'i: 'a, R: Wait + AllocGlobal> Scene<'a, 'i, R> {
     }
 }
 
-// Polls a future that is not finished, where its task was woken.
+// Polls a future that is not finished, if its task was woken.
 fn poll_woken<R: Wait + AllocGlobal>(future: &mut Option<Made<'_, '_, R>>, task: &MockTask) {
     if let Some(future) = future {
         if task.is_woken() && !future.is_finished() {
@@ -186,8 +186,8 @@ fn is_plain(lines: &str) -> bool {
 }
 
 /// Runs each schedule once for each request for memory that its lines make, with that one refused, whatever
-/// stands after `=>`. After that nobody may wait in vain: who is woken is polled, until nobody is, and then
-/// all are finished. The cells show nobody, and a new future has their value. Each init is dropped once.
+/// stands after `=>`. After that nobody may wait in vain: a future that is woken is polled, until none is, and
+/// then all are finished. The cells show nobody, and a new future has their value. Each init is dropped once.
 ///
 /// How many requests were refused. A schedule is passed over in which a future is forgotten or is polled by
 /// another's task, memory is short anyway, the owner takes the value, or more than a hundred futures wait.

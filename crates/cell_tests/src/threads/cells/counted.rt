@@ -114,7 +114,7 @@ impl<'c> Future for Init<'c> {
 
 // A cell that threads ask.
 trait Asked {
-    // What the thread is told. None where it is refused.
+    // What the thread is told. None if it is refused.
     fn asked<R: Wait + AllocGlobal + RandomSource>(
         &self,
         rt: &R,

@@ -21,7 +21,7 @@ use std::thread::{self, Threads};
 
 const CELLS: u64 = 300;
 
-// How often two threads are started anew: where they share a processor they do not meet.
+// How often two threads are started anew: if they share a processor they do not meet.
 const REPEATS: u64 = 6;
 
 // A cell, and how often its two threads met while the init that fails was being polled.
@@ -147,7 +147,7 @@ where
     Ok((told, are_filled))
 }
 
-/// Who brought an init that failed is told its error in whatever way it asks, also if another fills the cell meanwhile.
+/// A caller whose init failed is told its error in whatever way it asks, also if another fills the cell meanwhile.
 #[test]
 fn own_error_beside_a_value(rt: HostRuntime) -> Result<(), Fail> {
     let (first, second) = (MockTask::new(&rt)?, MockTask::new(&rt)?);

@@ -24,7 +24,7 @@ where
     task.enter(|cx| heard(Future::poll(future, cx)))
 }
 
-// A token that was told the cell's value, where that is set.
+// A token that was told the cell's value, if that is set.
 fn told<'a>(lazy: &'a Lazy<u64, Spinning<'_>>) -> Option<Known<'a, u64>>
     ensures { IfSome result (λ token. token.cell ≡ lazy.now) }
 {

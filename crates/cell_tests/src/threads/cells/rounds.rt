@@ -157,7 +157,7 @@ where
     Ok(None)
 }
 
-/// After each round of two, three and four threads the cell is free or filled. Who waited was woken.
+/// After each round of two to four threads the cell is free or filled. Each waiter that was not dropped was woken.
 #[test]
 fn rounds_leave_nothing(rt: HostRuntime) -> Result<(), Fail> {
     let bad = [first_bad(&rt, 2)?, first_bad(&rt, 3)?, first_bad(&rt, 4)?];

@@ -222,8 +222,8 @@ fn waited<R: Wait + AllocGlobal + Clock>(log: &Log<'_, R>, number: usize) {
     }
 }
 
-// Polls a future so often, and then drops it, unless it answers before. Who waits polls when it is woken, or a little
-// later.
+// Polls a future so often, and then drops it, unless it answers before. If it waits, it is polled again when its task
+// is woken, or else after a little while.
 fn used<'a, R>(log: &'a Log<'a, R>, number: usize, mut future: Asked<'a, R>, polls: u64)
 where
     R: Wait + AllocGlobal + Clock,
@@ -263,7 +263,7 @@ where
     Ok(())
 }
 
-// What three threads saw of a new cell, and whoever looks at it after them. No events if memory for them was refused.
+// What three threads saw of a new cell, and what a look found after them. No events if memory for them was refused.
 fn seen_of_a_round<R>(rt: &R, is_by_turns: bool, seed: u64) -> io::Result<Observed>
 where
     R: Wait + AllocGlobal + Clock + RandomSource + Threads + Sync,

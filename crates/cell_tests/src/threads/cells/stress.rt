@@ -1,4 +1,4 @@
-//! Four threads and two hundred cells: what comes out does not depend on who was first.
+//! Four threads and two hundred cells: what comes out does not depend on which was first.
 
 use super::gathered::{CELLS, THREADS, Visited, alike, gathered};
 use crate::doubles::stub::Tried;
@@ -96,8 +96,8 @@ fn values(alloc: Global, cells: &[Contested]) -> Result<Vec<u64>, AllocError> {
     Ok(values)
 }
 
-// How many cells have a value that some thread brought for them, from the one init that gave one, where
-// one failed at most.
+// How many cells have a value that some thread brought for them, from the one init that gave one, and
+// had at most one init that failed.
 fn sound(cells: &[Contested], values: &[u64]) -> u64 {
     let mut sound = 0u64;
     for (number, (contested, value)) in (0..).zip(cells.iter().zip(values)) {

@@ -31,10 +31,10 @@ const CHUNK: usize = 50;
 
 const TRIES: u64 = 4;
 
-// How often threads are started anew: where two of them share a processor they do not meet.
+// How often threads are started anew: if two of them share a processor they do not meet.
 const REPEATS: u64 = 6;
 
-// An init that fails: with 0, where no other init was polled meanwhile.
+// An init that fails: with 0 if no other init was polled meanwhile, and else with 1.
 #[derive(Drop)]
 struct Alone<'a> {
     inside: &'a AtomicU64,
@@ -164,7 +164,7 @@ impl Fills {
     }
 }
 
-// How many inits gave a value where so many threads use the cells, and whether all are filled then.
+// How many inits gave a value if so many threads use the cells, and whether all are filled then.
 fn filled_by<R>(rt: &R, threads: usize, leaves: bool) -> io::Result<(u64, bool)>
 where
     R: Wait + AllocGlobal + Threads + RandomSource + Sync,
@@ -202,7 +202,7 @@ fn threads_fill_once(rt: HostRuntime) -> Result<(), Fail> {
     Ok(())
 }
 
-/// Threads hold and wait, and are dropped where they do. Once the cell is filled no queue stands.
+/// Futures of threads hold or wait, and are dropped while they do. Once the cell is filled no queue stands.
 #[test]
 fn threads_leave_no_queue(rt: HostRuntime) -> Result<(), Fail> {
     let are_always = are_always_filled(&rt, true)?;

@@ -45,7 +45,7 @@ fn was_set<R: Clock>(rt: &R, word: &AtomicU64) -> bool {
     false
 }
 
-/// An init that keeps its thread until the other lets it go: 5, or 1 where nobody did.
+/// An init that keeps its thread until the other lets it go: 5, or 1 if nobody did.
 #[derive(Drop)]
 pub struct Blocking<'r, 'm, R> {
     rt: &'r R,

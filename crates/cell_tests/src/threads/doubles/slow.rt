@@ -36,7 +36,7 @@ impl<O: Copy> Future for Slow<'_, O> {
     }
 }
 
-/// An init that is Pending once, and then fails where one is still to fail. One is polled at a time.
+/// An init that is Pending once, and then fails if one is still to fail. One is polled at a time.
 #[derive(Drop)]
 pub struct Failing<'a> {
     was_polled: bool,

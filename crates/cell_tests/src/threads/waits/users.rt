@@ -52,8 +52,8 @@ where
     cell.get_or_init(rt, init).wait()
 }
 
-/// The value of a cell, which the token knows after it. Who asks with a token that knows is told that
-/// value.
+/// The value of a cell, which the token knows after it. A caller whose token knows a value is told
+/// that one.
 pub fn known<'a, R>(
     rt: &'a R,
     cell: &'a OnceCell<u64>,

@@ -1,4 +1,4 @@
-//! Failures that call one who waits, and turns that are passed on.
+//! Failures that wake a waiter, and turns that are passed on.
 
 /// Worked schedules, in the form of `crate::doubles::schedule`.
 pub const CALLS: &str = "\
