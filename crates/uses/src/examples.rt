@@ -67,12 +67,7 @@ where
     R: Wait + RandomSource + AllocGlobal,
 {
     let (cell, other, lazy) = (OnceCell::new(), OnceCell::new(), Lazy::new(ready(3)));
-    all([made(rt, &cell), tried(rt, &other), forced(rt, &lazy)])
-}
-
-/// The numbers, or the first fault.
-fn all([one, two, three]: [Result<u64, Fault>; 3]) -> Result<[u64; 3], Fault> {
-    Ok([one?, two?, three?])
+    Ok([made(rt, &cell)?, tried(rt, &other)?, forced(rt, &lazy)?])
 }
 
 /// The value of a cell.

@@ -18,7 +18,7 @@ where
 }
 
 /// What this thread and a new one are told of a cell that both own.
-fn told_to_both<R>(rt: R) -> Result<[Result<u64, Fault>; 2], AllocError>
+fn told_to_both<R>(rt: R) -> Result<(Result<u64, Fault>, Result<u64, Fault>), AllocError>
 where
     R: Threads + Wait + RandomSource + AllocGlobal + Copy + Send + 'static,
 {
@@ -26,13 +26,13 @@ where
     let theirs = Arc::try_clone(&cell)?;
     let there = thread::spawn(&rt, move || value(&rt, &theirs))?;
     let here = value(&rt, &cell);
-    Ok([here, there.join(&rt)])
+    Ok((here, there.join(&rt)))
 }
 
 // Prints what both were told.
 fn show_told<O: Write>(
     output: &mut O,
-    [here, there]: [Result<u64, Fault>; 2],
+    (here, there): (Result<u64, Fault>, Result<u64, Fault>),
 ) -> Result<(), Fault> {
     writeln!(output, "two owners were told {} and {}", here?, there?)?;
     Ok(())
