@@ -45,6 +45,13 @@ impl Play<(), Line, Leaf> for Puts {
 
 /// What all tasks of a cell share: the word, whether a queue was ever put to the door, the slot of the value, and under
 /// one lock the door with the queue. `V` says what is promised of the value.
+///
+/// ```
+/// let cell = Inner::<u64, Bell>::new();
+/// assert_eq!(rt; cell.has_queue(), Some(false));
+/// let mut record = cell.record();
+/// assert!(rt; cell.look(&mut record).is_none());
+/// ```
 #[derive(Drop)]
 pub struct Inner<T, W: TaskWaker, V: Fits<T> = Anything> {
     pub(super) word: CellWord,
@@ -61,11 +68,6 @@ pub struct Inner<T, W: TaskWaker, V: Fits<T> = Anything> {
 
 impl<T, W: TaskWaker + Drop> Inner<T, W> {
     /// A new cell, of whose value nothing is promised. It takes no memory. No clause says that it is empty.
-    ///
-    /// ```
-    /// let cell = Inner::<u64, Bell>::new();
-    /// assert_eq!(rt; cell.has_queue(), Some(false));
-    /// ```
     pub fn new() -> Self
         ensures about { result.slot.about ≡ [] }
     {
@@ -91,11 +93,6 @@ impl<T, W: TaskWaker + Drop, V: Fits<T>> Inner<T, W, V> {
     }
 
     /// The record as a new task or token has seen it.
-    ///
-    /// ```
-    /// let mut record = cell.record();
-    /// assert!(rt; cell.look(&mut record).is_some());
-    /// ```
     pub fn record(&self) -> Record
         ensures { result.book ≡ self.now.slot.book }
     {
@@ -103,12 +100,6 @@ impl<T, W: TaskWaker + Drop, V: Fits<T>> Inner<T, W, V> {
     }
 
     /// A new task.
-    ///
-    /// ```
-    /// let mut task = cell.task(&rt);
-    /// task.begin();
-    /// let word = task.load();
-    /// ```
     pub fn task<'a, 'r, R>(&'a self, rt: &'r R) -> Shared<'a, 'r, T, W, R, V>
         ensures cell { cell_of result ≡ self.now.slot }
         ensures task { (own result).task ≡ fresh_task }
@@ -122,12 +113,8 @@ impl<T, W: TaskWaker + Drop, V: Fits<T>> Inner<T, W, V> {
         }
     }
 
-    /// Looks for the value: one load of the word. If that is ready, the value is there.
-    ///
-    /// ```
-    /// let mut record = cell.record();
-    /// assert!(rt; cell.look(&mut record).is_none()); // at a moment of this call the cell was not set
-    /// ```
+    /// Looks for the value: one load of the word. If that is ready, the value is there, and else the cell was not set at
+    /// that moment.
     pub fn look<'a>(&'a self, seen: &mut Record) -> Option<(&'a T, Written<T>)>
         requires book { seen.old.book ≡ self.now.slot.book }
         ensures book { seen.new.book ≡ seen.old.book }
@@ -152,13 +139,7 @@ impl<T, W: TaskWaker + Drop, V: Fits<T>> Inner<T, W, V> {
         self.word.load::<Act, Act>(&Act::Look, seen, &mut none)
     }
 
-    /// The value, for a caller that has what shows it.
-    ///
-    /// ```
-    /// if let Some(written) = written {
-    ///     return Some(inner.value(written)); // without a look at the word
-    /// }
-    /// ```
+    /// The value, for a caller that has what shows it. It does not look at the word.
     pub fn value<'a>(&'a self, written: &Written<T>) -> &'a T
         requires { written.now.of ≡ self.now.slot.id }
         ensures value { result.now ≡ written.now.value }
@@ -168,13 +149,6 @@ impl<T, W: TaskWaker + Drop, V: Fits<T>> Inner<T, W, V> {
     }
 
     /// What shows the value, if a look finds it.
-    ///
-    /// ```
-    /// let written = match self {
-    ///     Contents::Owned(_) => None,
-    ///     Contents::Shared(inner) => inner.witness(),
-    /// };
-    /// ```
     pub fn witness(&self) -> Option<Written<T>>
         ensures { IfSome result (λ w. w.of ≡ self.now.slot.id) }
     {
@@ -183,13 +157,6 @@ impl<T, W: TaskWaker + Drop, V: Fits<T>> Inner<T, W, V> {
     }
 
     /// The value, if it was put, which no clause says. The record ends.
-    ///
-    /// ```
-    /// match contents {
-    ///     Contents::Owned(value) => Some(value),
-    ///     Contents::Shared(inner) => inner.into_inner(),
-    /// }
-    /// ```
     pub fn into_inner(self) -> Option<T>
         ensures promise { IfSome result (V.fits self.slot.about) }
     {
@@ -214,10 +181,6 @@ impl<T, W: TaskWaker + Drop, V: Fits<T>> Inner<T, W, V> {
 
     /// Whether a queue stands at the door, for Debug. It waits for nobody: `None` says that the lock was not free. No
     /// clause says what it answers.
-    ///
-    /// ```
-    /// assert_eq!(rt; cell.has_queue(), Some(false)); // nobody had to wait yet
-    /// ```
     pub fn has_queue(&self) -> Option<bool> {
         self.stands::<Brand>()
     }
@@ -243,7 +206,23 @@ unsafe impl<T: Send, W: TaskWaker + Send, V: Fits<T>> Send for Inner<T, W, V> {}
 
 unsafe impl<T: Send + Sync, W: TaskWaker + Send, V: Fits<T>> Sync for Inner<T, W, V> {}
 
-/// What the tasks of a cell share, as one task uses it that has a page in the book.
+/// What the tasks of a cell share, as one task uses it that has a page in the book. Each call is one step. Here a task
+/// that meets nobody fills its cell:
+///
+/// ```
+/// task.begin();
+/// let word = task.load();
+/// assert_eq!(rt; word, 0);
+/// let won = task.quick();
+/// assert!(rt; won);
+/// let polled = task.run(&mut side);
+/// assert_eq!(rt; polled, Polled::Value);
+/// task.put(7);
+/// let released = task.fast(true);
+/// assert!(rt; released);
+/// task.door_take();
+/// let (value, _) = task.value();
+/// ```
 #[derive(Drop)]
 pub struct Shared<'a, 'r, T, W: TaskWaker, R, V: Fits<T> = Anything> {
     pub(super) inner: &'a Inner<T, W, V>,
@@ -258,11 +237,6 @@ impl<'a, 'r, T, W: TaskWaker, R, V: Fits<T>> Shared<'a, 'r, T, W, R, V> {
     ghost use Rattle.async_once_cell.specs.Inner.Shares.{cell_of, own};
 
     /// Begins a poll.
-    ///
-    /// ```
-    /// task.begin();
-    /// let word = task.load();
-    /// ```
     pub fn begin(&mut self)
         requires can { is_resting (own self.old).task.step ≡ true }
         ensures cell { cell_of self.new ≡ cell_of self.old }
@@ -274,11 +248,6 @@ impl<'a, 'r, T, W: TaskWaker, R, V: Fits<T>> Shared<'a, 'r, T, W, R, V> {
     }
 
     /// Begins a drop.
-    ///
-    /// ```
-    /// self.side.begin();
-    /// self.parts.begin_drop();
-    /// ```
     pub fn begin_drop(&mut self)
         requires can { is_resting (own self.old).task.step ≡ true }
         ensures cell { cell_of self.new ≡ cell_of self.old }
@@ -290,11 +259,6 @@ impl<'a, 'r, T, W: TaskWaker, R, V: Fits<T>> Shared<'a, 'r, T, W, R, V> {
     }
 
     /// The value, for a task whose last call ended with it.
-    ///
-    /// ```
-    /// task.door_take(); // the last step of a poll that filled the cell
-    /// let (value, _) = task.value();
-    /// ```
     pub fn value(&self) -> (&'a T, Written<T>)
         requires ended { EndsSet (own self.now).number (own self.now).log }
         ensures value { (result.0.now ≡ result.1.value) × (result.1.of ≡ (cell_of self.now).id) }
@@ -320,10 +284,6 @@ impl<'a, 'r, T, W: TaskWaker, R, V: Fits<T>> Shared<'a, 'r, T, W, R, V> {
     }
 
     /// The number of this task, for its wakers.
-    ///
-    /// ```
-    /// let side = Noting::new(rt, task, parts.mark())?;
-    /// ```
     pub fn mark(&self) -> Mark
         ensures { result ≡ (own self.now).number }
     {

@@ -307,12 +307,6 @@ impl<'a, 'r, T, W: TaskWaker + Drop, R, V: Fits<T>> Task<'a, 'r, T, W, R, V> {
     }
 
     /// Whether the last call ended with anything but Pending, or the task was dropped. It may not be polled after that.
-    ///
-    /// ```
-    /// if self.task.is_finished() {
-    ///     return None;
-    /// }
-    /// ```
     pub fn is_finished(&self) -> bool
         ensures { result ≡ self.now.finished }
     {
@@ -320,10 +314,6 @@ impl<'a, 'r, T, W: TaskWaker + Drop, R, V: Fits<T>> Task<'a, 'r, T, W, R, V> {
     }
 
     /// The value, for a task whose last call ended with it.
-    ///
-    /// ```
-    /// let (value, _) = self.task.value();
-    /// ```
     pub fn value(&self) -> (&'a T, Written<T>)
         requires ended { EndsSet self.now.number self.now.log }
         ensures value { (result.0.now ≡ result.1.value) × (result.1.of ≡ self.now.cell.id) }
@@ -338,10 +328,6 @@ impl<'a, 'r, T, W: TaskWaker + Drop, R, V: Fits<T>> Task<'a, 'r, T, W, R, V> {
     }
 
     /// The number of this task, for its wakers.
-    ///
-    /// ```
-    /// let side = TestSide::new(rt, name, task.mark(), answer)?;
-    /// ```
     pub fn mark(&self) -> Mark
         ensures { result ≡ self.now.number }
     {
@@ -349,10 +335,6 @@ impl<'a, 'r, T, W: TaskWaker + Drop, R, V: Fits<T>> Task<'a, 'r, T, W, R, V> {
     }
 
     /// The name of the slot of its cell, for a side that is to be shown the value. It has no bytes.
-    ///
-    /// ```
-    /// slot: self.task.slot(),
-    /// ```
     pub fn slot(&self) -> Tag
         ensures { result.numbers ≡ self.now.cell.id ∷ [] }
     {
@@ -446,11 +428,6 @@ impl<'a, 'r, T, W: TaskWaker + Drop, R: Wait + AllocGlobal, V: Fits<T>> Task<'a,
     }
 
     /// A whole drop of a task that is not finished. It may wait, and hands wakers to the side, as [`poll`](Self::poll).
-    ///
-    /// ```
-    /// self.side.begin();
-    /// self.task.leave(&mut self.side);
-    /// ```
     pub fn leave<S: TaskSide<W, Value = T>>(&mut self, side: &mut S)
         requires live { self.old.finished ≡ false }
         requires number { (S.state side.old).number ≡ self.old.number }

@@ -174,13 +174,7 @@ impl<T, W: TaskWaker + Drop, R: Wait + AllocGlobal, V: Fits<T>> Shared<'_, '_, T
     }
 
     /// Makes one step of the call that is under way. It may wait as [`Task::poll`](crate::inner::Task::poll). `told` is
-    /// what the last step told.
-    ///
-    /// ```
-    /// while step.left() > 0 {
-    ///     told = self.one_step(step, side, told);
-    /// }
-    /// ```
+    /// what the last step told. To be called while [`Step::left`](once_machine::step::Step::left) is not 0.
     pub fn one_step<S: TaskSide<W, Value = T>>(
         &mut self,
         step: &mut Step<W, ()>,
