@@ -14,12 +14,19 @@ import tempfile
 
 TOP = os.path.dirname(os.path.dirname(os.path.abspath(__file__)))
 CRATES = os.path.join(TOP, "crates")
+SCRIPT = os.path.relpath(os.path.abspath(sys.argv[0]), TOP)
 
 
-def refuse(why, status=2, script=os.path.basename(sys.argv[0])):
+def refuse(why, status=2):
     """Ends the script with a line that says why."""
-    print(f"{script}: {why}", file=sys.stderr)
+    print(f"{SCRIPT}: {why}", file=sys.stderr)
     sys.exit(status)
+
+
+def told(faults, well):
+    """Prints the faults, or if there are none what is well, and returns the status of the script."""
+    print(*faults or [f"{SCRIPT}: {well}"], sep="\n")
+    return 1 if faults else 0
 
 
 def options(said):
