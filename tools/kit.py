@@ -8,9 +8,12 @@ import os
 import pathlib
 import re
 import shutil
+import signal
 import subprocess
 import sys
 import tempfile
+import threading
+import time
 
 TOP = os.path.dirname(os.path.dirname(os.path.abspath(__file__)))
 CRATES = os.path.join(TOP, "crates")
@@ -29,9 +32,12 @@ def told(faults, well):
     return 1 if faults else 0
 
 
-def options(said):
-    """Returns a parser of options, whose help is what the head of the script says."""
-    return argparse.ArgumentParser(description=said, formatter_class=argparse.RawDescriptionHelpFormatter)
+def options(said, **flags):
+    """Returns a parser of options, whose help is what the head of the script says, with these flags and their help."""
+    parser = argparse.ArgumentParser(description=said, formatter_class=argparse.RawDescriptionHelpFormatter)
+    for name, told_of in flags.items():
+        parser.add_argument(f"--{name}", action="store_true", help=told_of)
+    return parser
 
 
 def count(said):
@@ -123,14 +129,36 @@ def optional(*path):
     return file.read_bytes() if file.exists() else b""
 
 
+def child_of(run, word):
+    """Waits for a child of this process that is started with such a word, and returns its number and its words; None if
+    the process ends first."""
+    while run.poll() is None:
+        with contextlib.suppress(OSError):  # a process that ended meanwhile
+            for pid in pathlib.Path(f"/proc/{run.pid}/task/{run.pid}/children").read_text().split():
+                words = pathlib.Path(f"/proc/{pid}/cmdline").read_text().split("\0")[:-1]
+                if word in words:
+                    return int(pid), words
+        time.sleep(0.05)
+    return None
+
+
+def end_hint(run):
+    """Ends the check that `rt try` runs beside what it tries. That takes two fifths of the processor time, and only tells
+    of names that a proof will refuse."""
+    if found := child_of(run, "no function"):
+        os.kill(found[0], signal.SIGKILL)
+
+
 class Tried:
     """What `rt try` says of a crate: its status, its two streams, and whether the code came to its end."""
 
     def __init__(self, crate, *words, given=b""):
         """Tries the crate in this folder, with these words and this standard input."""
-        ran = subprocess.run(["rt", "try", *words], cwd=crate, input=given, capture_output=True)
-        self.status, self.printed, self.said = ran.returncode, ran.stdout, ran.stderr
-        self.has_ended = b"run=ended" in ran.stderr
+        streams = dict.fromkeys(["stdin", "stdout", "stderr"], subprocess.PIPE)
+        with subprocess.Popen(["rt", "try", *words], cwd=crate, **streams) as run:
+            threading.Thread(target=end_hint, args=[run], daemon=True).start()
+            self.printed, self.said = run.communicate(given)
+        self.status, self.has_ended = run.returncode, b"run=ended" in self.said
 
     def end(self):
         """Returns the last of what was said."""
