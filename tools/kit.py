@@ -50,8 +50,7 @@ def count(said):
 def read(*path):
     """Returns the text of a file, or refuses."""
     try:
-        with open(os.path.join(*path), encoding="utf-8") as file:
-            return file.read()
+        return pathlib.Path(*path).read_text("utf-8")
     except (OSError, UnicodeDecodeError) as why:
         refuse(f"{os.path.join(*path)} can't be read: {why}")
 
@@ -130,8 +129,7 @@ def optional(*path):
 
 
 def child_of(run, word):
-    """Waits for a child of this process that is started with such a word, and returns its number and its words; None if
-    the process ends first."""
+    """Returns number and words of the child that a process starts with this word, and None if it ends without one."""
     while run.poll() is None:
         with contextlib.suppress(OSError):  # a process that ended meanwhile
             for pid in pathlib.Path(f"/proc/{run.pid}/task/{run.pid}/children").read_text().split():
@@ -175,18 +173,9 @@ def try_tests(crate, *words):
     return {name: said if word == "FAILED" else word for name, word, said in ended}
 
 
-def try_program(crate, *words):
-    """Tries the program in this folder, with its `args`, `data` and `stdin`."""
-    data = os.path.join(crate, "data")
-    for path in sorted(glob.glob(os.path.join(data, "**"), recursive=True)):
-        words += ("--data", f"{os.path.relpath(path, data)}={path}") if os.path.isfile(path) else ()
-    args = optional(crate, "args").decode().splitlines()
-    return Tried(crate, *words, "--", *args, given=optional(crate, "stdin"))
-
-
 def tests_of(crate):
-    """Returns the names of the tests of the crate in this folder, each with its file."""
-    source, found = os.path.join(crate, "src"), {}
+    """Returns the names of the tests of a crate, which is given by its name or its folder, each with its file."""
+    source, found = os.path.join(CRATES, crate, "src"), {}
     for path in sources(crate):
         module = os.path.relpath(path, source)[:-len(".rt")].replace(os.sep, "::")
         for test in re.findall(r"^#\[test\]\nfn (\w+)", read(path), re.M):
@@ -225,12 +214,13 @@ def rustc(*words):
 
 
 def rust_program(folder, source, crate=None, *words):
-    """Builds a Rust program, over async-once-cell if its file src/lib.rs is given, and returns its path."""
+    """Builds a Rust program, of bench/ or at a whole path, over async-once-cell if its file src/lib.rs is given, and
+    returns its path."""
     program, over = os.path.join(folder, "over_crate" if crate else "alone"), []
     if crate:
         library = os.path.join(folder, "libasync_once_cell.rlib")
         kind = ["--crate-name", "async_once_cell", "--crate-type", "rlib", "--cfg", 'feature="std"']
         rustc("--edition", "2021", *kind, "--cap-lints", "allow", "-o", library, crate)
         over = ["--extern", f"async_once_cell={library}"]
-    rustc("--edition", "2024", *over, *words, "-o", program, source)
+    rustc("--edition", "2024", *over, *words, "-o", program, os.path.join(TOP, "bench", source))
     return program
