@@ -141,10 +141,11 @@ def child_of(run, word):
 
 
 def end_hint(run):
-    """Ends the check that `rt try` runs beside what it tries. That takes two fifths of the processor time, and only tells
-    of names that a proof will refuse."""
+    """Ends the check that `rt try` has beside it. That takes two fifths of the processor time, and only tells of names
+    that a proof will refuse."""
     if found := child_of(run, "no function"):
-        os.kill(found[0], signal.SIGKILL)
+        with contextlib.suppress(ProcessLookupError):  # it may just have ended
+            os.kill(found[0], signal.SIGKILL)
 
 
 class Tried:
