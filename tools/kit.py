@@ -8,23 +8,36 @@ import os
 import pathlib
 import re
 import shutil
+import signal
 import subprocess
 import sys
 import tempfile
+import threading
+import time
 
 TOP = os.path.dirname(os.path.dirname(os.path.abspath(__file__)))
 CRATES = os.path.join(TOP, "crates")
+SCRIPT = os.path.relpath(os.path.abspath(sys.argv[0]), TOP)
 
 
-def refuse(why, status=2, script=os.path.basename(sys.argv[0])):
+def refuse(why, status=2):
     """Ends the script with a line that says why."""
-    print(f"{script}: {why}", file=sys.stderr)
+    print(f"{SCRIPT}: {why}", file=sys.stderr)
     sys.exit(status)
 
 
-def options(said):
-    """Returns a parser of options, whose help is what the head of the script says."""
-    return argparse.ArgumentParser(description=said, formatter_class=argparse.RawDescriptionHelpFormatter)
+def told(faults, well):
+    """Prints the faults, or if there are none what is well, and returns the status of the script."""
+    print(*faults or [f"{SCRIPT}: {well}"], sep="\n")
+    return 1 if faults else 0
+
+
+def options(said, **flags):
+    """Returns a parser of options, whose help is what the head of the script says, with these flags and their help."""
+    parser = argparse.ArgumentParser(description=said, formatter_class=argparse.RawDescriptionHelpFormatter)
+    for name, told_of in flags.items():
+        parser.add_argument(f"--{name}", action="store_true", help=told_of)
+    return parser
 
 
 def count(said):
@@ -37,8 +50,7 @@ def count(said):
 def read(*path):
     """Returns the text of a file, or refuses."""
     try:
-        with open(os.path.join(*path), encoding="utf-8") as file:
-            return file.read()
+        return pathlib.Path(*path).read_text("utf-8")
     except (OSError, UnicodeDecodeError) as why:
         refuse(f"{os.path.join(*path)} can't be read: {why}")
 
@@ -116,14 +128,36 @@ def optional(*path):
     return file.read_bytes() if file.exists() else b""
 
 
+def child_of(run, word):
+    """Returns number and words of the child that a process starts with this word, and None if it ends without one."""
+    while run.poll() is None:
+        with contextlib.suppress(OSError):  # a process that ended meanwhile
+            for pid in pathlib.Path(f"/proc/{run.pid}/task/{run.pid}/children").read_text().split():
+                words = pathlib.Path(f"/proc/{pid}/cmdline").read_text().split("\0")[:-1]
+                if word in words:
+                    return int(pid), words
+        time.sleep(0.05)
+    return None
+
+
+def end_hint(run):
+    """Ends the check that `rt try` has beside it. That takes two fifths of the processor time, and only tells of names
+    that a proof will refuse."""
+    if found := child_of(run, "no function"):
+        with contextlib.suppress(ProcessLookupError):  # it may just have ended
+            os.kill(found[0], signal.SIGKILL)
+
+
 class Tried:
     """What `rt try` says of a crate: its status, its two streams, and whether the code came to its end."""
 
     def __init__(self, crate, *words, given=b""):
         """Tries the crate in this folder, with these words and this standard input."""
-        ran = subprocess.run(["rt", "try", *words], cwd=crate, input=given, capture_output=True)
-        self.status, self.printed, self.said = ran.returncode, ran.stdout, ran.stderr
-        self.has_ended = b"run=ended" in ran.stderr
+        streams = dict.fromkeys(["stdin", "stdout", "stderr"], subprocess.PIPE)
+        with subprocess.Popen(["rt", "try", *words], cwd=crate, **streams) as run:
+            threading.Thread(target=end_hint, args=[run], daemon=True).start()
+            self.printed, self.said = run.communicate(given)
+        self.status, self.has_ended = run.returncode, b"run=ended" in self.said
 
     def end(self):
         """Returns the last of what was said."""
@@ -140,18 +174,9 @@ def try_tests(crate, *words):
     return {name: said if word == "FAILED" else word for name, word, said in ended}
 
 
-def try_program(crate, *words):
-    """Tries the program in this folder, with its `args`, `data` and `stdin`."""
-    data = os.path.join(crate, "data")
-    for path in sorted(glob.glob(os.path.join(data, "**"), recursive=True)):
-        words += ("--data", f"{os.path.relpath(path, data)}={path}") if os.path.isfile(path) else ()
-    args = optional(crate, "args").decode().splitlines()
-    return Tried(crate, *words, "--", *args, given=optional(crate, "stdin"))
-
-
 def tests_of(crate):
-    """Returns the names of the tests of the crate in this folder, each with its file."""
-    source, found = os.path.join(crate, "src"), {}
+    """Returns the names of the tests of a crate, which is given by its name or its folder, each with its file."""
+    source, found = os.path.join(CRATES, crate, "src"), {}
     for path in sources(crate):
         module = os.path.relpath(path, source)[:-len(".rt")].replace(os.sep, "::")
         for test in re.findall(r"^#\[test\]\nfn (\w+)", read(path), re.M):
@@ -190,12 +215,13 @@ def rustc(*words):
 
 
 def rust_program(folder, source, crate=None, *words):
-    """Builds a Rust program, over async-once-cell if its file src/lib.rs is given, and returns its path."""
+    """Builds a Rust program, of bench/ or at a whole path, over async-once-cell if its file src/lib.rs is given, and
+    returns its path."""
     program, over = os.path.join(folder, "over_crate" if crate else "alone"), []
     if crate:
         library = os.path.join(folder, "libasync_once_cell.rlib")
         kind = ["--crate-name", "async_once_cell", "--crate-type", "rlib", "--cfg", 'feature="std"']
         rustc("--edition", "2021", *kind, "--cap-lints", "allow", "-o", library, crate)
         over = ["--extern", f"async_once_cell={library}"]
-    rustc("--edition", "2024", *over, *words, "-o", program, source)
+    rustc("--edition", "2024", *over, *words, "-o", program, os.path.join(TOP, "bench", source))
     return program

@@ -390,7 +390,8 @@ fn a_core_counts_beyond_the_limit_and_out(rt: HostRuntime) {
     assert_eq!(rt; seen, (true, counts, false, words));
 }
 
-// A claim, two that count in, a fast release, one more that counts in, and two that count out.
+// A claim; one that counts in, and a second that finds the count full; a fast release, which fails since one is
+// counted in; one that is counted in whatever the limit is; and two that count out.
 fn counted(alloc: Global) -> (bool, [Counted; 2], bool, [Option<u64>; 3]) {
     let mut core = Core::new(alloc, false, 1);
     let won = core.quick();

@@ -226,17 +226,6 @@ init 0
 poll 0 v8 => v8, done
 end => Some(8), None
 
-# value_for_1100: so many may wait, and the value calls each
-init 0
-poll 0 p => pending, wakes 0
-1..1101 * init n
-1..1101 * poll n v9 => pending
-show => OnceCell { value: None, inner: Inner { ready: false, quick_init: true, refcount: 1100, queue: true } }
-poll 0 v4 => v4, done, wakes 1 to 1100
-1..1101 * poll n v9 => v4, done
-inits => 2 polls, 1101 drops
-show => OnceCell { value: Some(4), inner: Inner { ready: true, quick_init: false, refcount: 0, queue: false } }
-
 # taken_while_a_queue_stands: a forgotten future leaves its right behind. The owner puts all away, and wakes nobody
 init 0
 init 1
@@ -249,6 +238,19 @@ take => None
 show => OnceCell { value: None, inner: Inner { ready: false, quick_init: false, refcount: 0, queue: false } }
 init 0
 poll 0 v3 => v3, done";
+
+// A schedule that takes long if each access is checked: after each line each task is looked at.
+const MANY: &str = "\
+# value_for_1100: so many may wait, and the value calls each
+init 0
+poll 0 p => pending, wakes 0
+1..1101 * init n
+1..1101 * poll n v9 => pending
+show => OnceCell { value: None, inner: Inner { ready: false, quick_init: true, refcount: 1100, queue: true } }
+poll 0 v4 => v4, done, wakes 1 to 1100
+1..1101 * poll n v9 => v4, done
+inits => 2 polls, 1101 drops
+show => OnceCell { value: Some(4), inner: Inner { ready: true, quick_init: false, refcount: 0, queue: false } }";
 
 // Schedules over a `OnceCell` that need no memory from some point on, and get none.
 const STARVED: &str = "\
@@ -310,6 +312,11 @@ inits => 1 polls, 1 drops";
 #[test]
 fn memory_as_asked(rt: HostRuntime) -> Result<(), Fail> {
     run(&rt, SCHEDULES)
+}
+
+#[test]
+fn value_for_1100(rt: HostRuntime) -> Result<(), Fail> {
+    run(&rt, MANY)
 }
 
 #[test]
