@@ -113,8 +113,7 @@ impl<T, W: TaskWaker + Drop, V: Fits<T>> Inner<T, W, V> {
         }
     }
 
-    /// Looks for the value: one load of the word. If that is ready, the value is there, and else the cell was not set at
-    /// that moment.
+    /// Looks for the value: one load of the word. If that is ready, the value is there. Else the cell was not set then.
     pub fn look<'a>(&'a self, seen: &mut Record) -> Option<(&'a T, Written<T>)>
         requires book { seen.old.book ≡ self.now.slot.book }
         ensures book { seen.new.book ≡ seen.old.book }

@@ -101,7 +101,7 @@ where
         ensures cell { token.new.cell ≡ token.old.cell }
         ensures value { token.new.value ≡ option_or token.old.value self.now.value }
         ensures agrees { IfSome self.now.value (Agrees token.old.value) }
-        ensures own { IsPrefix token.old.log token.new.log }
+        ensures log { IsPrefix token.old.log token.new.log }
         ensures other { IsPrefix self.now.log token.new.log }
         ensures set { IsSetIn self.now.cell self.now.log → IsSetIn token.new.cell token.new.log }
     {
@@ -115,7 +115,7 @@ where
         ensures task { self.new.task ≡ self.old.task }
         ensures finished { self.new.finished ≡ self.old.finished }
         ensures value { self.new.value ≡ self.old.value }
-        ensures own { IsPrefix self.old.log self.new.log }
+        ensures log { IsPrefix self.old.log self.new.log }
         ensures other { IsPrefix token.now.log self.new.log }
         ensures mine { entries_of self.old.task self.new.log ≡ entries_of self.old.task self.old.log }
         ensures own_set { IsSetIn self.old.cell self.old.log → IsSetIn self.new.cell self.new.log }

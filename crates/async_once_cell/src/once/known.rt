@@ -100,7 +100,7 @@ impl<'a, T, V: Fits<T>> Known<'a, T, V> {
         ensures cell { self.new.cell ≡ self.old.cell }
         ensures value { self.new.value ≡ option_or self.old.value other.now.value }
         ensures agrees { IfSome other.now.value (Agrees self.old.value) }
-        ensures own { IsPrefix self.old.log self.new.log }
+        ensures log { IsPrefix self.old.log self.new.log }
         ensures other { IsPrefix other.now.log self.new.log }
         ensures set { IsSetIn other.now.cell other.now.log → IsSetIn self.new.cell self.new.log }
     {
@@ -207,7 +207,7 @@ impl<T> Seen<T> {
         ensures of { (c : CellView T) → IsOf c self.old → IsOf c other.now
             → IsOf c self.new × (known_of c self.new ≡ option_or (known_of c self.old) (known_of c other.now))
             × IfSome (known_of c other.now) (Agrees (known_of c self.old)) }
-        ensures own { IsPrefix (log_of self.old) (log_of self.new) }
+        ensures log { IsPrefix (log_of self.old) (log_of self.new) }
         ensures other { IsPrefix (log_of other.now) (log_of self.new) }
         ensures set { IsSet (log_of other.now) → IsSet (log_of self.new) }
     {
@@ -231,7 +231,7 @@ impl<T> Seen<T> {
 fn take_over(own: &mut Record, seen: &Record)
     requires book { seen.now.book ≡ own.old.book }
     ensures book { own.new.book ≡ own.old.book }
-    ensures own { IsPrefix own.old.log own.new.log }
+    ensures log { IsPrefix own.old.log own.new.log }
     ensures other { IsPrefix seen.now.log own.new.log }
     ensures own_set { IsSet own.old.log → IsSet own.new.log }
     ensures other_set { IsSet seen.now.log → IsSet own.new.log }

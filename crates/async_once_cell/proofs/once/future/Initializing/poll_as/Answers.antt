@@ -9,10 +9,10 @@ returns-then-knows_value-clause-call g c =
     let learned = c.learn.ensures in
     let kept : Keeps c.args.cx.now c.args.cx.now = search rules in
     polls_known c.args.token.now.value c.args.self.now c.leave_as.new.self _ _ _ (sym c.knows_value.ensures.knows ∙ c.if-knows_value.true)
-    (left_later c.args.self.now c.learn.new.self c.leave_as.new.self learned.cell learned.task learned.own learned.mine c.leave_as.ensures.left, kept)
+    (left_later c.args.self.now c.learn.new.self c.leave_as.new.self learned.cell learned.task learned.log learned.mine c.leave_as.ensures.left, kept)
 
 pub returns-clause-call : goal.returns-clause-call
 returns-clause-call g c =
     let learned = c.learn.ensures in
     polls_unknown c.args.token.now.value c.args.self.now c.poll-polled.new.self _ _ _ (sym c.knows_value.ensures.knows ∙ c.if-knows_value.false)
-    (did_later c.args.self.now c.learn.new.self _ _ _ _ learned.cell learned.task learned.own learned.mine c.poll-polled.ensures.call)
+    (did_later c.args.self.now c.learn.new.self _ _ _ _ learned.cell learned.task learned.log learned.mine c.poll-polled.ensures.call)
