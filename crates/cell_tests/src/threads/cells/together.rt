@@ -25,6 +25,8 @@ const LONG_CALLS: u64 = 50_000;
 
 const LOOKS: u64 = 300_000;
 
+const VISITS: u64 = 10_000;
+
 const CELLS: u64 = 500;
 
 const CHUNK: usize = 50;
@@ -210,55 +212,80 @@ fn threads_leave_no_queue(rt: HostRuntime) -> Result<(), Fail> {
     Ok(())
 }
 
-// Begins to wait and leaves, again and again, until it is told to stop.
+// Begins to wait and leaves, again and again, and counts how often, until it is told to stop.
 fn come_and_go<R: Wait + AllocGlobal>(
     rt: &R,
     task: &MockTask,
     cell: &OnceCell<u64>,
-    stop: &AtomicU64,
+    (visits, stop): (&AtomicU64, &AtomicU64),
 ) {
     for _ in rt.forever() {
         polled(task, &mut cell.get_or_init(rt, pending()));
+        visits.fetch_add(1, Ordering::SeqCst);
         if stop.load(Ordering::SeqCst) > 0 {
             break;
         }
     }
 }
 
-// Shows the cell until that tells that its queue is in use, however long the other thread has to wait for a
-// processor. Then the other is told to stop.
-fn look_until_busy<R: Wait + AllocGlobal>(rt: &R, cell: &OnceCell<u64>, stop: &AtomicU64) {
+// Shows the cell until that tells that its queue is in use, or until the other thread has come and gone once more,
+// however long it has to wait for a processor. Whether the cell told so.
+fn is_seen_busy<R: Wait + AllocGlobal>(rt: &R, cell: &OnceCell<u64>, visits: &AtomicU64) -> bool {
+    let before = visits.load(Ordering::SeqCst);
+    let mut is_seen = false;
     for _ in rt.forever() {
-        if has_text(rt, cell, "queue: busy") {
+        is_seen = has_text(rt, cell, "queue: busy");
+        if is_seen || visits.load(Ordering::SeqCst) != before {
+            break;
+        }
+    }
+    is_seen
+}
+
+// Whether the cell showed that its queue is in use while the other thread came and went so often. Each time it uses
+// the queue. Then the other is told to stop.
+fn is_busy_once<R>(rt: &R, cell: &OnceCell<u64>, (visits, stop): (&AtomicU64, &AtomicU64)) -> bool
+where
+    R: Wait + AllocGlobal,
+{
+    let mut is_busy = false;
+    for _ in 0..VISITS {
+        if is_seen_busy(rt, cell, visits) {
+            is_busy = true;
             break;
         }
     }
     stop.store(1, Ordering::SeqCst);
+    is_busy
 }
 
-// What a holder's poll answered, once the cell showed that its queue is in use, while another task came and went
-// in a thread of its own.
-fn shown_beside<R>(rt: &R, cell: &OnceCell<u64>, (first, second): (&MockTask, &MockTask)) -> Reply
+// What a holder's poll answered, and whether the cell showed then that its queue is in use, while another task came
+// and went in a thread of its own.
+fn shown_beside<R>(
+    rt: &R,
+    cell: &OnceCell<u64>,
+    (first, second): (&MockTask, &MockTask),
+) -> (Reply, bool)
 where
     R: Wait + AllocGlobal + Threads + Sync,
 {
-    let stop = AtomicU64::new(0);
+    let (visits, stop) = (AtomicU64::new(0), AtomicU64::new(0));
     let mut holder = cell.get_or_init(rt, pending());
     let reply = polled(first, &mut holder);
-    let ((), ()) = thread::join(
+    let ((), is_busy) = thread::join(
         rt,
-        || come_and_go(rt, second, cell, &stop),
-        || look_until_busy(rt, cell, &stop),
+        || come_and_go(rt, second, cell, (&visits, &stop)),
+        || is_busy_once(rt, cell, (&visits, &stop)),
     );
-    reply
+    (reply, is_busy)
 }
 
 /// While one thread uses the queue of a cell, another that shows the cell waits for nobody, and is told so in the end.
 #[test]
 fn a_busy_queue_is_shown(rt: HostRuntime) -> Result<(), Fail> {
     let (first, second) = (MockTask::new(&rt)?, MockTask::new(&rt)?);
-    let reply = shown_beside(&rt, &OnceCell::new(), (&first, &second));
-    assert_eq!(rt; reply, Reply::Pending);
+    let seen = shown_beside(&rt, &OnceCell::new(), (&first, &second));
+    assert_eq!(rt; seen, (Reply::Pending, true));
     Ok(())
 }
 
