@@ -58,7 +58,7 @@ module _ {T E H X : Type 0} (may_fail : H → X → Type 0) (may_give : H → T 
     pub stays : Stays a b  -- the context keeps what it had, and the side is as right as before
 
 -- what a leaving task's side tells: it has nothing that the init gave
-abbrev pub leaving : {T : Type 0} → LeaveSide T → Sided
+abbrev pub leaving : {T R : Type 0} → LeaveSide T R → Sided
 leaving s = record {
   number = s.mark;
   has_init = false;

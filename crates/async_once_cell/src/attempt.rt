@@ -12,7 +12,6 @@ ghost use Rattle.async_once_cell.specs.Inits.{GivesNoOther, InitFits, TellsOwn, 
 ghost use Rattle.async_once_cell.specs.Polls.{IsValue, ending_by, is_over, value_of};
 ghost use Rattle.async_once_cell.specs.Views.{IsAnswered, AttemptView, shown_in, value_in};
 ghost use Rattle.std.proofs.Common.{rules, subst, ap, ◌∙◌};
-ghost use Rattle.std.proofs.lemmas.Bool.{false≢true};
 ghost use Rattle.async_once_cell.specs.Inner.Sides.{HasCopied, HasWoken, sided_tells};
 ghost use Rattle.async_once_cell.specs.Listed.{WakesTask, whose};
 ghost use Rattle.async_once_cell.specs.Stays.{Hands, IsRenewed, Stays, leaving, told};
@@ -113,6 +112,7 @@ impl<'a, T, I: Drop, R: Wait + AllocGlobal, V: Fits<T>> Attempt<'a, T, I, R, V> 
         let before = self.task.record();
         drop(self.init.take());
         let mut side = LeaveSide {
+            rt: self.task.rt(),
             mark: self.task.mark(),
             woke: Snapshot::of(&Out::One(None)),
             value: PhantomData,
@@ -129,6 +129,7 @@ fn leave_unfinished<T, R: Wait + AllocGlobal, V: Fits<T>>(
     requires live { task.finished ≡ false }
 {
     let mut side = LeaveSide {
+        rt: task.rt(),
         mark: task.mark(),
         woke: Snapshot::of(&Out::One(None)),
         value: PhantomData,
@@ -384,38 +385,35 @@ impl<T: Drop, X: Failure, I: Init<T, X>> TaskSide<ListedWaker>
 // What a drop brings, when the init is gone. It does not name the init's type, so that a program has its code once for
 // all inits.
 #[derive(Drop)]
-struct LeaveSide<T> {
+struct LeaveSide<'r, T, R> {
+    rt: &'r R,
     mark: Mark,
     // The wakers that it was handed to wake.
     woke: Snapshot<Out<ListedWaker>>,
     value: PhantomData<T>,
 }
 
-impl<T> Side<ListedWaker> for LeaveSide<T> {
+impl<T, R: Wait> Side<ListedWaker> for LeaveSide<'_, T, R> {
     type Value = T;
 
     type Right = Hand;
 
     ghost did = { sided_tells whose leaving };
 
-    // A task that leaves has no init, and so no value.
-    ghost can_run = { λ _. ⊥ };
-
-    ghost can_put = { λ _. ⊥ };
-
     ghost hands = { λ _ _. ⊥ };
-
-    ghost handed = { λ _ _. ⊥ };
 
     ghost stays = { λ _ _. ⊤ };
 
+    // Nobody calls this, `put`, `renew` or `keep`, because a task that leaves has no init. It would never return.
     fn run(&mut self, _right: &mut Hand) -> Polled {
+        for _ in self.rt.forever() {}
         unreachable!()
     }
 
     fn close(&mut self) {}
 
     fn put(&mut self) -> T {
+        for _ in self.rt.forever() {}
         unreachable!()
     }
 
@@ -436,13 +434,13 @@ impl<T> Side<ListedWaker> for LeaveSide<T> {
     ghost stays_on = { λ _ _ _ _ _. tt };
 }
 
-impl<T> Renews<ListedWaker> for LeaveSide<T> {
+impl<T, R: Wait> Renews<ListedWaker> for LeaveSide<'_, T, R> {
     ghost renewed = { λ s v t w. (t ≡ s) × (w ≡ v) };
 
     fn renew(&mut self, _listed: &mut ListedWaker) {}
 }
 
-impl<T> TaskSide<ListedWaker> for LeaveSide<T> {
+impl<T, R: Wait> TaskSide<ListedWaker> for LeaveSide<'_, T, R> {
     ghost state = { leaving };
 
     ghost has_slot = { λ _ _. ⊤ };
@@ -452,18 +450,18 @@ impl<T> TaskSide<ListedWaker> for LeaveSide<T> {
     }
 
     fn keep(&mut self, _written: Written<T>)
-        requires value { ⊥ }
         ensures shown { leaving self.new ≡ record (leaving self.old) { has_shown = true } }
         ensures stays { ⊤ }
     {
+        for _ in self.rt.forever() {}
         unreachable!()
     }
 
     ghost tells = { Prim.search rules };
 
-    ghost runs = { λ s h. false≢true h };
+    ghost runs = { λ s h. tt };
 
-    ghost puts = { λ s h. false≢true h };
+    ghost puts = { λ s h. tt };
 
     ghost owner = { λ s v t w r. ap whose r.1 };
 
