@@ -15,3 +15,4 @@ pub mod Sides
 pub mod Tasks
 pub mod Idle
 pub mod Ways
+pub mod Prelude

@@ -10,6 +10,7 @@ pub mod Polls
 pub mod Futures
 pub mod Inits
 pub mod Record
+pub mod Prelude
 -- the definitions of the machine
 pub use Rattle.once_machine.specs.Numbers
 pub use Rattle.once_machine.specs.Word

@@ -1,10 +1,7 @@
 //! A cell that owns the future that fills it.
 ghost use Rattle.std.specs.Prelude.{◌≡◌, ℕ, IfOk, IfSome, IsSome, List, None, false, true};
-ghost use Rattle.std.specs.Result.{result_ok};
-ghost use Rattle.std.specs.Option.{is_some};
-ghost use Rattle.async_once_cell.specs.Polls.{IsMade};
 ghost use Rattle.async_once_cell.specs.Tokens.{Gives, IsSetIn, Learns, Lends, Looks};
-ghost use Rattle.async_once_cell.specs.Views.{Owned, about_of, is_shared, CellView};
+ghost use Rattle.async_once_cell.specs.Prelude.{result_ok, is_some, IsMade, Owned, about_of, is_shared, CellView};
 
 mod future;
 

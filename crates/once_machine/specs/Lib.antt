@@ -28,3 +28,4 @@ pub mod Book
 pub mod Words
 pub mod Can
 pub mod Shown
+pub mod Prelude

@@ -3,13 +3,9 @@
 ghost use Rattle.std.specs.Prelude.{◌≡◌, ◌≢◌, ◌≤◌, ◌⊎◌, ℕ, true, false, List, [], ◌∷◌, Some, None, length};
 ghost use Rattle.once_machine.specs.Record.{Answer, RanError, Kind, Reply, Value, Error, Memory, Full, Entry, Claim};
 ghost use Rattle.once_machine.specs.Record.{Ran, Free, Pass, End, DropEnd, is_own};
-ghost use Rattle.once_machine.specs.Cell.{Empty, Held, SetTo, cell, answers_left};
-ghost use Rattle.once_machine.specs.Tasks.{Dropping, Holding, Gone, status, is_under_way, last_call};
-ghost use Rattle.once_machine.specs.Wakers.{IsDue, IsOpen, times_opened, times_handed};
-ghost use Rattle.once_machine.specs.Refusals.{Since, OtherActs};
-ghost use Rattle.once_machine.specs.Crowd.{AreWaiting};
-ghost use Rattle.once_machine.specs.Freed.{HasFreed};
-ghost use Rattle.once_machine.specs.Run.{AtEvery, IsRun, NobodyForgotten};
+ghost use Rattle.once_machine.specs.Prelude.{Empty, Held, SetTo, cell, answers_left, Dropping, Holding, Gone, status};
+ghost use Rattle.once_machine.specs.Prelude.{is_under_way, last_call, IsDue, IsOpen, times_opened, times_handed, Since};
+ghost use Rattle.once_machine.specs.Prelude.{OtherActs, AreWaiting, HasFreed, AtEvery, IsRun, NobodyForgotten};
 
 /// At most one task holds the right, whether it rests or is in a call. A task that claims finds the
 /// cell empty, and an init is polled by the task that holds.

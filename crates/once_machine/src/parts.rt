@@ -4,8 +4,7 @@ ghost use Rattle.once_machine.specs.Table.{Call, Load, Quick, Fast, CountIn, Add
 ghost use Rattle.once_machine.specs.Table.{DoorTake, Section, Refuse, Run, Put, counted, wants_copy, Told, Loaded};
 ghost use Rattle.once_machine.specs.Table.{TriedQuick, TriedFast, Added, CountedOut, Got, PutQueue, Taken, Was};
 ghost use Rattle.once_machine.specs.Table.{Refused, Ran, PutValue};
-ghost use Rattle.once_machine.specs.Ops.{HasWaker};
-ghost use Rattle.once_machine.specs.Word.{flags_of};
+ghost use Rattle.once_machine.specs.Prelude.{HasWaker, flags_of};
 
 pub use crate::log::QueueLine;
 use crate::step::{Polled, RunRight, Side};

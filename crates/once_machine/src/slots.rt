@@ -3,13 +3,9 @@ ghost use Rattle.std.specs.Prelude.{◌≡◌, ◌==◌, ◌<◌, ◌≤◌, ◌
 ghost use Rattle.std.specs.Prelude.{if◌then◌else◌, Some, None, IsSome, IfSome, IfOk, IsOk, OnOk, length, vec_len};
 ghost use Rattle.std.specs.Prelude.{vec_capacity, HoldsAt, filter};
 ghost use Rattle.std.specs.List.{position};
-ghost use Rattle.std.specs.Option.{option_copied, option_map};
-ghost use Rattle.once_machine.specs.Numbers.{is_distinct, member};
-ghost use Rattle.once_machine.specs.Marks.{is_marked};
-ghost use Rattle.once_machine.specs.Listings.{tickets, find_listing, take_out, first_waker, call_first, new_ticket};
-ghost use Rattle.once_machine.specs.Listings.{lent_listings};
-ghost use Rattle.once_machine.specs.Kept.{hole, is_kept, is_open};
-ghost use Rattle.once_machine.specs.Sections.{Renewed};
+ghost use Rattle.once_machine.specs.Prelude.{option_copied, option_map, is_distinct, member, is_marked, tickets};
+ghost use Rattle.once_machine.specs.Prelude.{find_listing, take_out, first_waker, call_first, new_ticket};
+ghost use Rattle.once_machine.specs.Prelude.{lent_listings, hole, is_kept, is_open, Renewed};
 
 use crate::waiters::{Listing, Renews};
 use std::alloc::{AllocError, Global};

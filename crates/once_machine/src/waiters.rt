@@ -3,16 +3,12 @@ ghost use Rattle.std.specs.Prelude.{◌≡◌, ◌≢◌, ◌↔◌, ◌+◌, �
 ghost use Rattle.std.specs.Prelude.{if◌then◌else◌, IsSome, IfSome, IsOk, IfOk, OnOk, OnErr, All, length, Some, None};
 ghost use Rattle.std.specs.Prelude.{vec_len};
 ghost use Rattle.std.specs.List.{AllPairs, HoldsAt};
-ghost use Rattle.std.specs.Option.{MatchOption, option_copied, option_flatten, option_map, is_some};
-ghost use Rattle.once_machine.specs.Numbers.{member};
 ghost use Rattle.once_machine.specs.Slots.{listings_in, HasMark, HasSlot};
-ghost use Rattle.once_machine.specs.Listings.{tickets, Listing, find_listing, own_listing, take_out, list_without};
-ghost use Rattle.once_machine.specs.Listings.{first_waker, call_first, kept_ticket, ticket_for, passes_turn};
-ghost use Rattle.once_machine.specs.Listings.{next_waker, left_list, lent_listings};
-ghost use Rattle.once_machine.specs.Sections.{AreApart, HandsAll, DidLook, DidList, Releases, Renewed};
-ghost use Rattle.once_machine.specs.Ops.{ticket_in};
-ghost use Rattle.once_machine.specs.Word.{flags_of, sees, is_free};
-ghost use Rattle.once_machine.specs.Claims.{Claims, spent_by};
+ghost use Rattle.once_machine.specs.Prelude.{MatchOption, option_copied, option_flatten, option_map, is_some, member};
+ghost use Rattle.once_machine.specs.Prelude.{tickets, Listing, find_listing, own_listing, take_out, list_without};
+ghost use Rattle.once_machine.specs.Prelude.{first_waker, call_first, kept_ticket, ticket_for, passes_turn, next_waker};
+ghost use Rattle.once_machine.specs.Prelude.{left_list, lent_listings, AreApart, HandsAll, DidLook, DidList, Releases};
+ghost use Rattle.once_machine.specs.Prelude.{Renewed, ticket_in, flags_of, sees, is_free, Claims, spent_by};
 
 use crate::slots::Slots;
 use crate::step::Out;

@@ -1,15 +1,10 @@
 // A word that threads read and change in single steps, with the book behind it: how a book is opened, what a thread
 // knows of it, and which pages the thread may change.
 ghost use Rattle.core.specs.Prelude.{◌≡◌, ℕ, ◌+◌, ◌-◌, ◌%◌, ◌^◌, ◌==◌, List, [], ◌++◌, take, drop, slice_get};
-ghost use mathlib.Core.List.{IsPrefix};
 ghost use mathlib.Core.Logic.{◌⊎◌};
-ghost use base.Fml.{fsep, fex};
-ghost use base.Stored.{coded_list, coded_ℕ};
-ghost use denote.Sharing.{said};
-ghost use Rattle.core.specs.declared.option.Option.TheVariants.{Some};
-ghost use prog.Atomic.{either};
 ghost use Rattle.pagebook.specs.Pages.{Book, book_coded, Held, held_coded, Named, named_coded, Moves, Notes, dealt};
 ghost use Rattle.pagebook.specs.Owned.{blanks_own, pens_own, seen_owns, word_pen, word_shares};
+ghost use Rattle.pagebook.specs.Prelude.{IsPrefix, fsep, fex, coded_list, coded_ℕ, said, Some, either};
 
 use crate::rule::{Opening, Play, Rule};
 use atomic_table::exchange;

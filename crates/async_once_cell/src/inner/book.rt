@@ -1,10 +1,7 @@
 //! The book of a cell. A line of its log and a page are types of a specification, so the structs here are for clauses
 //! alone: nobody makes a value of them.
 ghost use Rattle.std.specs.Prelude.{None, false, [], ◌∷◌};
-ghost use Rattle.once_machine.specs.Record.{Entry, Look};
-ghost use Rattle.async_once_cell.specs.Kept.{Sheet, sheet, IsKept};
-ghost use Rattle.once_machine.specs.Book.{Queue};
-ghost use Rattle.async_once_cell.specs.Inner.Desk.{desk_pages, first_desk};
+ghost use Rattle.async_once_cell.specs.Inner.Prelude.{Entry, Look, Sheet, sheet, IsKept, Queue, desk_pages, first_desk};
 
 use pagebook::{Opening, Pens, Rule, Seen, Slot, Word};
 use std::marker::Model;

@@ -1,23 +1,12 @@
 //! What lies under the one lock of a cell, and the moments of a task that has the lock.
 ghost use Rattle.std.specs.Prelude.{◌≡◌, ◌*◌, ◌⊎◌, ℕ, Bool, true, false, List, [], Option, Some, None};
-ghost use Rattle.std.specs.Option.{is_some};
-ghost use Rattle.pagebook.specs.Pages.{Book};
-ghost use Rattle.once_machine.specs.Claims.{Claims};
-ghost use Rattle.once_machine.specs.Listings.{kept_ticket};
-ghost use Rattle.once_machine.specs.Room.{HasSpace, claimant, listings_of};
-ghost use Rattle.once_machine.specs.Word.{flags_of, sees};
-ghost use Rattle.async_once_cell.specs.Inner.Sections.{more_released, CanNote, IsLoading, Moment, Tells};
-ghost use Rattle.async_once_cell.specs.Inner.Own.{IsWord};
-ghost use Rattle.async_once_cell.specs.Inner.Desk.{IsDesk, desked, IsDesked, desk_sheets, first_desk};
-ghost use Rattle.once_machine.specs.Table.{DoorPut, Section as SectionCall, DoorGet, DoorTake, Got, PutQueue, Taken};
-ghost use Rattle.once_machine.specs.Table.{Was};
-ghost use Rattle.once_machine.specs.declared.waiters.Op.{Op};
-ghost use Rattle.async_once_cell.specs.Inner.Page.{call_in, queue_of, Went};
 ghost use Rattle.async_once_cell.specs.Inner.Hands.{own_of};
-ghost use Rattle.async_once_cell.specs.Inner.Places.{numbered, CanRest};
-ghost use Rattle.async_once_cell.specs.Inner.Parts.{CanCall, DidCall};
-ghost use Rattle.once_machine.specs.declared.waiters.Answer.{Answer};
-ghost use Rattle.async_once_cell.specs.Inner.Named.{HasRenewed, KeepsOwner};
+ghost use Rattle.async_once_cell.specs.Inner.Prelude.{is_some, Book, Claims, kept_ticket, HasSpace, claimant};
+ghost use Rattle.async_once_cell.specs.Inner.Prelude.{listings_of, flags_of, sees, more_released, CanNote, IsLoading};
+ghost use Rattle.async_once_cell.specs.Inner.Prelude.{Moment, Tells, IsWord, IsDesk, desked, IsDesked, desk_sheets};
+ghost use Rattle.async_once_cell.specs.Inner.Prelude.{first_desk, DoorPut, Section as SectionCall, DoorGet, DoorTake};
+ghost use Rattle.async_once_cell.specs.Inner.Prelude.{Got, PutQueue, Taken, Was, Op, call_in, queue_of, Went, numbered};
+ghost use Rattle.async_once_cell.specs.Inner.Prelude.{CanRest, CanCall, DidCall, Answer, HasRenewed, KeepsOwner};
 
 use super::book::{CellPens, CellWord, Leaf, Line};
 use super::hand::{Hand, TaskWaker};

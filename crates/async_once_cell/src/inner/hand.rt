@@ -2,18 +2,11 @@
 //! lock. Functions that do nothing say what is known of a record, and a trait says whose a waker is.
 ghost use Rattle.std.specs.Prelude.{◌≡◌, ◌≢◌, ℕ, None, true, false, [], ◌∷◌, reverse};
 ghost use Rattle.async_once_cell.specs.Inner.Own.{IsHand, number_in, IsWord, Stayed};
-ghost use mathlib.Core.List.{IsPrefix};
 ghost use Rattle.async_once_cell.specs.Inner.Acts.{Tells};
-ghost use Rattle.std.specs.Option.{MatchOption};
 ghost use Rattle.once_machine.specs.Table.{CountIn, DoorPut, DoorTake, PutQueue, Refused, Taken, counted};
-ghost use Rattle.once_machine.specs.Machine.{fresh_task};
-ghost use Rattle.once_machine.specs.Record.{Made, Once};
-ghost use Rattle.once_machine.specs.Run.{AtEvery, IsRun};
-ghost use Rattle.once_machine.specs.Called.{SomebodyCalled};
-ghost use Rattle.async_once_cell.specs.Kept.{Grew, entries_of, most};
-ghost use Rattle.async_once_cell.specs.Inner.Page.{Went, call_in};
-ghost use Rattle.async_once_cell.specs.Inner.Places.{CanRefuse};
 ghost use Rattle.async_once_cell.specs.Record.{EndsSet, IsSet, PollsOnce, WasFilled};
+ghost use Rattle.async_once_cell.specs.Inner.Prelude.{IsPrefix, MatchOption, fresh_task, Made, Once, AtEvery, IsRun};
+ghost use Rattle.async_once_cell.specs.Inner.Prelude.{SomebodyCalled, Grew, entries_of, most, Went, call_in, CanRefuse};
 
 use super::book::{CellPens, CellWord, Leaf, Line, Record};
 use once_machine::parts::Counted;

@@ -1,20 +1,12 @@
 //! What the tasks of a cell share, and that as one task uses it. Why the value, which lies beside the words, may be
 //! written and read plainly is said at the head of `slot.rt` in `pagebook`.
 ghost use Rattle.std.specs.Prelude.{◌≡◌, ◌^◌, if◌then◌else◌, [], true, IfSome, IsSome, List, ◌∷◌, reverse};
-ghost use Rattle.async_once_cell.specs.Inner.Own.{IsWord, Turned};
-ghost use Rattle.once_machine.specs.Word.{flags_of};
 ghost use Rattle.once_machine.specs.Table.{CountIn, Load, Loaded, Put, PutValue, counted as count_told};
-ghost use Rattle.async_once_cell.specs.Inner.Page.{Went, call_in};
 ghost use Rattle.async_once_cell.specs.Inner.Hands.{own_of};
-ghost use Rattle.async_once_cell.specs.Record.{EndsSet, Looked, WasFilled};
-ghost use Rattle.async_once_cell.specs.Inner.Acts.{Writes as Wrote, Puts as HasPut};
-ghost use Rattle.std.specs.Option.{is_some};
-ghost use Rattle.once_machine.specs.Record.{Entry, Made, Begin};
-ghost use Rattle.once_machine.specs.Machine.{fresh_task, drop_entries};
-ghost use Rattle.async_once_cell.specs.Kept.{Grew};
-ghost use Rattle.once_machine.specs.Steps.{is_resting, step_of_drop};
-ghost use Rattle.async_once_cell.specs.Inner.Places.{task_begun, task_dropping};
-ghost use Rattle.async_once_cell.specs.Inner.Parts.{parts_can, parts_did};
+ghost use Rattle.async_once_cell.specs.Inner.Prelude.{IsWord, Turned, flags_of, Went, call_in, EndsSet, Looked};
+ghost use Rattle.async_once_cell.specs.Inner.Prelude.{WasFilled, Writes as Wrote, Puts as HasPut, is_some, Entry, Made};
+ghost use Rattle.async_once_cell.specs.Inner.Prelude.{Begin, fresh_task, drop_entries, Grew, is_resting, step_of_drop};
+ghost use Rattle.async_once_cell.specs.Inner.Prelude.{task_begun, task_dropping, parts_can, parts_did};
 
 use super::book::{CellRule, CellSlot, CellWord, Leaf, Line, Record};
 use super::desk::Desk;

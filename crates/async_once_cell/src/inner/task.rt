@@ -1,24 +1,15 @@
 //! A task of a cell, with its whole polls and drops: its side, the init that it polls while it has the right, what it
 //! keeps between two calls, and its steps.
-ghost use Rattle.std.specs.Prelude.{◌≡◌, ◌≢◌, ◌<◌, ℕ, true, false, List, [], ◌∷◌, IsSome, IsSomeAnd, IfErr, IfOk};
-ghost use Rattle.std.specs.Prelude.{None, Option, Some, Ok};
-ghost use Rattle.futures.specs.Poll.{IfReady, OnPending};
-ghost use Rattle.futures.specs.Task.{IsArmed, Keeps};
-ghost use mathlib.Core.List.{IsPrefix};
+ghost use Rattle.std.specs.Prelude.{◌≡◌, ◌≢◌, ◌<◌, ℕ, true, false, List, [], ◌∷◌, IsSome, IsSomeAnd, IfErr, IfOk, None};
+ghost use Rattle.std.specs.Prelude.{Option, Some, Ok};
 ghost use Rattle.once_machine.specs.Record.{DropBegin, DropEnd, Entry, Made};
-ghost use Rattle.async_once_cell.specs.Kept.{Grew, entries_of};
-ghost use Rattle.async_once_cell.specs.Record.{EndsSet, IsSet};
-ghost use Rattle.once_machine.specs.declared.step.Ending.{Ending};
 ghost use Rattle.async_once_cell.specs.Inner.Shares.{cell_of, own};
-ghost use Rattle.async_once_cell.specs.Inner.Idle.{is_over, step_of};
 ghost use Rattle.async_once_cell.specs.Walks.{IsCall, Spans, StandsOn, end_of, handed};
-ghost use Rattle.once_machine.specs.Steps.{in_call, is_resting};
-ghost use Rattle.async_once_cell.specs.Inner.Sides.{GivesFit, IsReady, IsTold, Sided};
-ghost use Rattle.async_once_cell.specs.Inner.Named.{KeepsOwner};
-ghost use Rattle.async_once_cell.specs.Inner.Tasks.{TaskView, HasPolled};
 ghost use Rattle.async_once_cell.specs.Inner.Hands.{HasRight, HasRun};
-ghost use Rattle.async_once_cell.specs.Inits.{GivesNoOther, MayGive, polled_in};
-ghost use Rattle.async_once_cell.specs.Refused.{given_error};
+ghost use Rattle.async_once_cell.specs.Inner.Prelude.{IfReady, OnPending, IsArmed, Keeps, IsPrefix, Grew, entries_of};
+ghost use Rattle.async_once_cell.specs.Inner.Prelude.{EndsSet, IsSet, Ending, is_over, step_of, in_call, is_resting};
+ghost use Rattle.async_once_cell.specs.Inner.Prelude.{GivesFit, IsReady, IsTold, Sided, KeepsOwner, TaskView};
+ghost use Rattle.async_once_cell.specs.Inner.Prelude.{HasPolled, GivesNoOther, MayGive, polled_in, given_error};
 
 use super::book::{CellSlot, Record};
 use super::hand::{Hand, Mark, TaskWaker};

@@ -11,20 +11,12 @@
 //! as [`Reached`], and puts the wakers that it took aside, as [`Spent`]. With the lock free, `go_on_from` drops the
 //! init if it is to be closed, and goes on.
 ghost use Rattle.std.specs.Prelude.{◌≡◌, ◌<◌, Bool, false, true};
-ghost use Rattle.once_machine.specs.Steps.{in_call, is_value, release_place};
-ghost use Rattle.async_once_cell.specs.Inner.Idle.{is_over, step_of};
 ghost use Rattle.async_once_cell.specs.Inner.Shares.{cell_of, own};
-ghost use Rattle.async_once_cell.specs.Inner.Own.{Own};
-ghost use Rattle.async_once_cell.specs.Inner.Page.{call_in};
-ghost use Rattle.async_once_cell.specs.Inner.Sides.{GivesFit, HasPut, Sided};
-ghost use Rattle.async_once_cell.specs.Walks.{Stands, Walked};
 ghost use Rattle.async_once_cell.specs.Inner.Ways.{IsAt, IsBegun, IsUnder, Leads, LeadsBy, Polls, StandsBy, next_by};
-ghost use Rattle.std.specs.Option.{MatchOption};
-ghost use Rattle.once_machine.specs.declared.waiters.Answer.{Answer};
-ghost use Rattle.once_machine.specs.declared.waiters.Op.{Op};
-ghost use Rattle.once_machine.specs.Table.{Put, PutValue, Section, Was, left_of};
 ghost use Rattle.async_once_cell.specs.Inner.Hands.{own_of};
-ghost use Rattle.async_once_cell.specs.Inner.Parts.{CanCall, DidCall};
+ghost use Rattle.async_once_cell.specs.Inner.Prelude.{in_call, is_value, release_place, is_over, step_of, Own, call_in};
+ghost use Rattle.async_once_cell.specs.Inner.Prelude.{GivesFit, HasPut, Sided, Stands, Walked, MatchOption, Answer, Op};
+ghost use Rattle.async_once_cell.specs.Inner.Prelude.{Put, PutValue, Section, Was, left_of, CanCall, DidCall};
 
 mod waiter;
 

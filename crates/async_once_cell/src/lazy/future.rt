@@ -1,21 +1,11 @@
 //! The future of a cell that owns its init.
 ghost use Rattle.std.specs.Prelude.{◌≡◌, ◌≢◌, ⊤, ℕ, IfSome, IsSome, List, None, Option, Result, false, true, reverse};
-ghost use Rattle.std.specs.Option.{option_or};
-ghost use Rattle.std.specs.Borrow.{Bor};
-ghost use Rattle.futures.specs.Poll.{IfReady, OnPending};
-ghost use Rattle.futures.specs.Task.{Covers, Keeps};
-ghost use mathlib.Core.List.{IsPrefix};
 ghost use Rattle.async_once_cell.specs.Polls.{Answers, DidPoll, HasLeft, IfValue, IsMade, IsValue, IsValueAtOnce};
 ghost use Rattle.async_once_cell.specs.Polls.{Polls, PollsAs, SpansIn, Waits, ending_by, ending_of_refusal, value_of};
-ghost use Rattle.async_once_cell.specs.Tokens.{Agrees, IsSetIn};
-ghost use Rattle.async_once_cell.specs.Views.{about_of, is_shared};
-ghost use Rattle.async_once_cell.specs.Inits.{MayGive};
-ghost use Rattle.async_once_cell.specs.Kept.{entries_of, most};
 ghost use Rattle.async_once_cell.specs.Record.{IsSet, PollsOnce, WasFilled};
-ghost use Rattle.async_once_cell.specs.Walks.{end_of};
-ghost use Rattle.once_machine.specs.Called.{SomebodyCalled};
-ghost use Rattle.once_machine.specs.Record.{Once};
-ghost use Rattle.once_machine.specs.Run.{AtEvery, IsRun, NobodyForgotten};
+ghost use Rattle.async_once_cell.specs.Prelude.{option_or, Bor, IfReady, OnPending, Covers, Keeps, IsPrefix, Agrees};
+ghost use Rattle.async_once_cell.specs.Prelude.{IsSetIn, about_of, is_shared, MayGive, entries_of, most, end_of};
+ghost use Rattle.async_once_cell.specs.Prelude.{SomebodyCalled, Once, AtEvery, IsRun, NobodyForgotten};
 
 use crate::error::Refused;
 use crate::inner::{Failed, Hand, Init, Pollable, Yields};

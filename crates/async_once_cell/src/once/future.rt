@@ -1,22 +1,12 @@
 //! The future of a cell. Three names stand for it, by what its init gives and what it answers.
 ghost use Rattle.std.specs.Prelude.{◌≡◌, ◌≢◌, ⊤, IfSome, IsSome, None, Result, Some, false, true, reverse};
-ghost use Rattle.std.specs.Option.{option_or};
-ghost use Rattle.std.specs.Borrow.{Bor};
-ghost use Rattle.futures.specs.Poll.{IfReady, OnPending};
-ghost use Rattle.futures.specs.Task.{Covers, Keeps};
-ghost use mathlib.Core.List.{IsPrefix};
-ghost use Rattle.async_once_cell.specs.Inits.{GivesNoOther, TellsOwn};
 ghost use Rattle.async_once_cell.specs.Polls.{Answers, AnswersOwn, DidPoll, HasLeft, IsMade, IsValue, Polls, PollsAs};
 ghost use Rattle.async_once_cell.specs.Polls.{SpansIn, ending_by, value_of};
-ghost use Rattle.async_once_cell.specs.Tokens.{Agrees, IsSetIn};
-ghost use Rattle.async_once_cell.specs.Views.{IsOf, about_of, is_shared, known_of, log_of, FutureView};
-ghost use Rattle.once_machine.specs.Record.{Once};
-ghost use Rattle.once_machine.specs.Run.{AtEvery, IsRun, NobodyForgotten};
-ghost use Rattle.once_machine.specs.Called.{SomebodyCalled};
-ghost use Rattle.async_once_cell.specs.Kept.{entries_of, most};
-ghost use Rattle.async_once_cell.specs.Walks.{end_of};
-ghost use Rattle.async_once_cell.specs.Record.{IsSet, PollsOnce, WasFilled};
 ghost use Rattle.async_once_cell.specs.Futures.{IsOfCell, KeepsPromise, view_of_future};
+ghost use Rattle.async_once_cell.specs.Prelude.{option_or, Bor, IfReady, OnPending, Covers, Keeps, IsPrefix};
+ghost use Rattle.async_once_cell.specs.Prelude.{GivesNoOther, TellsOwn, Agrees, IsSetIn, IsOf, about_of, is_shared};
+ghost use Rattle.async_once_cell.specs.Prelude.{known_of, log_of, FutureView, Once, AtEvery, IsRun, NobodyForgotten};
+ghost use Rattle.async_once_cell.specs.Prelude.{SomebodyCalled, entries_of, most, end_of, IsSet, PollsOnce, WasFilled};
 
 use super::known::Seen;
 use super::{Contents, Known, OnceCell};

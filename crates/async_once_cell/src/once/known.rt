@@ -1,14 +1,8 @@
 //! Tokens: what their holder has learned of one cell. And what was told of it, for its owner.
 ghost use Rattle.std.specs.Prelude.{◌≡◌, ◌↔◌, ◌⊎◌, IfSome, IsSome, IsTrue, MatchOption, None, Some, true, reverse};
-ghost use Rattle.std.specs.Option.{is_some, option_or};
-ghost use mathlib.Core.List.{IsPrefix};
-ghost use Rattle.once_machine.specs.Record.{Once};
-ghost use Rattle.once_machine.specs.Run.{AtEvery, IsRun, NobodyForgotten};
-ghost use Rattle.once_machine.specs.Called.{SomebodyCalled};
-ghost use Rattle.async_once_cell.specs.Kept.{most};
-ghost use Rattle.async_once_cell.specs.Record.{IsSet, PollsOnce, WasFilled};
 ghost use Rattle.async_once_cell.specs.Views.{CellView, IsOf, Shows, ToldView, TokenView, is_shared, known_of, log_of};
-ghost use Rattle.async_once_cell.specs.Tokens.{Agrees, IsSetIn};
+ghost use Rattle.async_once_cell.specs.Prelude.{is_some, option_or, IsPrefix, Once, AtEvery, IsRun, NobodyForgotten};
+ghost use Rattle.async_once_cell.specs.Prelude.{SomebodyCalled, most, IsSet, PollsOnce, WasFilled, Agrees, IsSetIn};
 
 use super::{Contents, OnceCell};
 use crate::inner::Record;

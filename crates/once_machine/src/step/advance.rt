@@ -1,8 +1,7 @@
 //! One step: at each place its handler, whose clause is the line of the table of places.
 ghost use Rattle.std.specs.Prelude.{◌≡◌, ◌<◌, Option, true};
-ghost use Rattle.once_machine.specs.Steps.{Wakes, out_of, in_call};
-ghost use Rattle.once_machine.specs.Table.{Advances, Asks, AsksAt, Follows, Line, MayRefuse, Refuse, Refused};
-ghost use Rattle.once_machine.specs.Table.{after_copy, left_of};
+ghost use Rattle.once_machine.specs.Prelude.{Wakes, out_of, in_call, Advances, Asks, AsksAt, Follows, Line, MayRefuse};
+ghost use Rattle.once_machine.specs.Prelude.{Refuse, Refused, after_copy, left_of};
 
 use super::{Ending, Out, Place, Polled, Progress, Rest, Side, Step};
 use crate::parts::{Counted, Parts};

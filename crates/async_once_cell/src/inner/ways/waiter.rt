@@ -3,10 +3,8 @@
 ghost use Rattle.std.specs.Prelude.{◌≡◌, false, None, []};
 ghost use Rattle.async_once_cell.specs.Inner.Hands.{own_of};
 ghost use Rattle.async_once_cell.specs.Inner.Shares.{cell_of};
-ghost use Rattle.async_once_cell.specs.Inner.Sides.{GivesFit};
-ghost use Rattle.async_once_cell.specs.Walks.{StandsOn};
 ghost use Rattle.async_once_cell.specs.Inner.Ways.{IsAt, IsHeld, IsUnder, Polls, Reaches};
-ghost use Rattle.once_machine.specs.Room.{listings_of};
+ghost use Rattle.async_once_cell.specs.Inner.Prelude.{GivesFit, StandsOn, listings_of};
 
 use super::super::desk::Desk;
 use super::super::hand::{Hand, TaskWaker};

@@ -1,0 +1,23 @@
+-- The words of the contracts, from one place.
+pub use Rattle.async_once_cell.specs.Inits.{MayGive, GivesNoOther, TellsOwn}
+pub use Rattle.async_once_cell.specs.Inner.Sides.{HasCopied, HasWoken, sided_tells}
+pub use Rattle.async_once_cell.specs.Kept.{Grew, entries_of, most}
+pub use Rattle.async_once_cell.specs.Listed.{WakesTask, whose}
+pub use Rattle.async_once_cell.specs.Polls.{IsValue, ending_by, is_over, value_of, ending_of_refusal, ending_of_error}
+pub use Rattle.async_once_cell.specs.Polls.{IsMade}
+pub use Rattle.async_once_cell.specs.Record.{EndsSet, IsSet, gave_value, PollsOnce, WasFilled}
+pub use Rattle.async_once_cell.specs.Tokens.{Agrees, IsSetIn}
+pub use Rattle.async_once_cell.specs.Views.{IsAnswered, AttemptView, shown_in, value_in, Owned, about_of, is_shared}
+pub use Rattle.async_once_cell.specs.Views.{CellView, IsOf, known_of, log_of, FutureView}
+pub use Rattle.async_once_cell.specs.Walks.{IsOneCall, Spans, end_of}
+pub use Rattle.futures.specs.Poll.{IfReady, OnPending}
+pub use Rattle.futures.specs.Task.{IsArmed, Keeps, Covers}
+pub use Rattle.once_machine.specs.Called.{SomebodyCalled}
+pub use Rattle.once_machine.specs.Record.{Begin, DropBegin, DropEnd, Entry, Made, Once}
+pub use Rattle.once_machine.specs.Run.{AtEvery, IsRun, NobodyForgotten}
+pub use Rattle.once_machine.specs.declared.step.Ending.{Ending}
+pub use Rattle.std.specs.Borrow.{Bor, LendsIf, sem}
+pub use Rattle.std.specs.IoError.{error_kind}
+pub use Rattle.std.specs.Option.{is_some, option_or}
+pub use Rattle.std.specs.Result.{result_ok}
+pub use mathlib.Core.List.{IsPrefix}

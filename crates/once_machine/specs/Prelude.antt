@@ -1,0 +1,23 @@
+-- The words of the contracts, from one place.
+pub use Rattle.once_machine.specs.Cell.{Empty, Held, SetTo, cell, answers_left}
+pub use Rattle.once_machine.specs.Claims.{Claims, spent_by}
+pub use Rattle.once_machine.specs.Crowd.{AreWaiting}
+pub use Rattle.once_machine.specs.Freed.{HasFreed}
+pub use Rattle.once_machine.specs.Kept.{hole, is_kept, is_open}
+pub use Rattle.once_machine.specs.Listings.{tickets, find_listing, take_out, first_waker, call_first, new_ticket}
+pub use Rattle.once_machine.specs.Listings.{lent_listings, Listing, own_listing, list_without, kept_ticket, ticket_for}
+pub use Rattle.once_machine.specs.Listings.{passes_turn, next_waker, left_list}
+pub use Rattle.once_machine.specs.Marks.{is_marked}
+pub use Rattle.once_machine.specs.Numbers.{is_distinct, member}
+pub use Rattle.once_machine.specs.Ops.{HasWaker, ticket_in}
+pub use Rattle.once_machine.specs.Refusals.{Since, OtherActs}
+pub use Rattle.once_machine.specs.Run.{AtEvery, IsRun, NobodyForgotten}
+pub use Rattle.once_machine.specs.Sections.{Renewed, AreApart, HandsAll, DidLook, DidList, Releases}
+pub use Rattle.once_machine.specs.Steps.{Wakes, out_of, in_call}
+pub use Rattle.once_machine.specs.Table.{left_at, left_of, Advances, Asks, AsksAt, Follows, Line, MayRefuse, Refuse}
+pub use Rattle.once_machine.specs.Table.{Refused, after_copy}
+pub use Rattle.once_machine.specs.Tasks.{Dropping, Holding, Gone, status, is_under_way, last_call}
+pub use Rattle.once_machine.specs.Wakers.{IsDue, IsOpen, times_opened, times_handed}
+pub use Rattle.once_machine.specs.Word.{flags_of, sees, is_free}
+pub use Rattle.once_machine.specs.declared.step.Polled.{Polled}
+pub use Rattle.std.specs.Option.{option_copied, option_map, MatchOption, option_flatten, is_some}
