@@ -1,14 +1,17 @@
 -- The words of the contracts, from one place.
-pub use Rattle.async_once_cell.specs.Inits.{MayGive, GivesNoOther, TellsOwn}
+pub use Rattle.async_once_cell.specs.Inits.{GivesNoOther, InitFits, TellsOwn, MayGive}
 pub use Rattle.async_once_cell.specs.Inner.Sides.{HasCopied, HasWoken, sided_tells}
 pub use Rattle.async_once_cell.specs.Kept.{Grew, entries_of, most}
 pub use Rattle.async_once_cell.specs.Listed.{WakesTask, whose}
 pub use Rattle.async_once_cell.specs.Polls.{IsValue, ending_by, is_over, value_of, ending_of_refusal, ending_of_error}
-pub use Rattle.async_once_cell.specs.Polls.{IsMade}
+pub use Rattle.async_once_cell.specs.Polls.{IsMade, Answers, DidPoll, HasLeft, IfValue, IsValueAtOnce, Polls, PollsAs}
+pub use Rattle.async_once_cell.specs.Polls.{SpansIn, Waits, AnswersOwn}
 pub use Rattle.async_once_cell.specs.Record.{EndsSet, IsSet, gave_value, PollsOnce, WasFilled}
-pub use Rattle.async_once_cell.specs.Tokens.{Agrees, IsSetIn}
+pub use Rattle.async_once_cell.specs.Refused.{own_error, message, message_of, kind_of, error_of}
+pub use Rattle.async_once_cell.specs.Tokens.{Gives, IsSetIn, Learns, Lends, Looks, Agrees, LendsMut}
 pub use Rattle.async_once_cell.specs.Views.{IsAnswered, AttemptView, shown_in, value_in, Owned, about_of, is_shared}
-pub use Rattle.async_once_cell.specs.Views.{CellView, IsOf, known_of, log_of, FutureView}
+pub use Rattle.async_once_cell.specs.Views.{CellView, IsWritten, Settled, view_of, IsOf, known_of, log_of, FutureView}
+pub use Rattle.async_once_cell.specs.Views.{Shows, ToldView, TokenView}
 pub use Rattle.async_once_cell.specs.Walks.{IsOneCall, Spans, end_of}
 pub use Rattle.futures.specs.Poll.{IfReady, OnPending}
 pub use Rattle.futures.specs.Task.{IsArmed, Keeps, Covers}

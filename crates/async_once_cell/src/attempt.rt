@@ -1,12 +1,12 @@
 //! A task of a cell with the init that its future brought, and what it brings to a poll and to a drop: its sides.
 ghost use Rattle.std.specs.Prelude.{◌≡◌, ◌∷◌, [], List, true, false, ⊤, IfErr, IfSome, IsSome, IsSomeAnd, None, Some};
-ghost use Rattle.async_once_cell.specs.Inits.{GivesNoOther, InitFits, TellsOwn, MayGive};
 ghost use Rattle.std.proofs.Common.{rules, subst, ap, ◌∙◌};
 ghost use Rattle.async_once_cell.specs.Stays.{Hands, IsRenewed, Stays, leaving, told};
-ghost use Rattle.async_once_cell.specs.Prelude.{is_some, IfReady, IsArmed, Keeps, Ending, Begin, DropBegin, DropEnd};
-ghost use Rattle.async_once_cell.specs.Prelude.{Entry, Made, Grew, EndsSet, IsSet, gave_value, IsOneCall, Spans};
-ghost use Rattle.async_once_cell.specs.Prelude.{end_of, IsValue, ending_by, is_over, value_of, IsAnswered, AttemptView};
-ghost use Rattle.async_once_cell.specs.Prelude.{shown_in, value_in, HasCopied, HasWoken, sided_tells, WakesTask, whose};
+ghost use Rattle.async_once_cell.specs.Prelude.{GivesNoOther, InitFits, TellsOwn, MayGive, is_some, IfReady, IsArmed};
+ghost use Rattle.async_once_cell.specs.Prelude.{Keeps, Ending, Begin, DropBegin, DropEnd, Entry, Made, Grew, EndsSet};
+ghost use Rattle.async_once_cell.specs.Prelude.{IsSet, gave_value, IsOneCall, Spans, end_of, IsValue, ending_by};
+ghost use Rattle.async_once_cell.specs.Prelude.{is_over, value_of, IsAnswered, AttemptView, shown_in, value_in};
+ghost use Rattle.async_once_cell.specs.Prelude.{HasCopied, HasWoken, sided_tells, WakesTask, whose};
 
 use crate::error::{Failure, Refused};
 use crate::inner::hand::{is_set_where_answered, stays_set};

@@ -1,7 +1,7 @@
 //! Why a poll ended without a value: the error of its own init, or a refusal.
 ghost use Rattle.std.specs.Prelude.{◌≡◌, Some};
-ghost use Rattle.async_once_cell.specs.Refused.{own_error, message, message_of, kind_of, error_of};
-ghost use Rattle.async_once_cell.specs.Prelude.{Ending, ending_of_refusal, ending_of_error, error_kind};
+ghost use Rattle.async_once_cell.specs.Prelude.{own_error, message, message_of, kind_of, error_of, Ending};
+ghost use Rattle.async_once_cell.specs.Prelude.{ending_of_refusal, ending_of_error, error_kind};
 
 use std::error::Error;
 use std::io::ErrorKind;

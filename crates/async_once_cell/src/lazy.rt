@@ -1,7 +1,7 @@
 //! A cell that owns the future that fills it.
 ghost use Rattle.std.specs.Prelude.{◌≡◌, ℕ, IfOk, IfSome, IsSome, List, None, false, true};
-ghost use Rattle.async_once_cell.specs.Tokens.{Gives, IsSetIn, Learns, Lends, Looks};
-ghost use Rattle.async_once_cell.specs.Prelude.{result_ok, is_some, IsMade, Owned, about_of, is_shared, CellView};
+ghost use Rattle.async_once_cell.specs.Prelude.{Gives, IsSetIn, Learns, Lends, Looks, result_ok, is_some, IsMade};
+ghost use Rattle.async_once_cell.specs.Prelude.{Owned, about_of, is_shared, CellView};
 
 mod future;
 

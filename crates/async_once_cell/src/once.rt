@@ -1,9 +1,9 @@
 //! A cell that is filled once, by the init of one of the calls that ask for its value. And where it keeps that value.
 ghost use Rattle.std.specs.Prelude.{◌≡◌, IfSome, IsSome, None, Ok, Some, true, false};
-ghost use Rattle.async_once_cell.specs.Views.{CellView, IsWritten, Owned, Settled, about_of, is_shared, view_of};
-ghost use Rattle.async_once_cell.specs.Tokens.{Gives, IsSetIn, Learns, Lends, LendsMut, Looks};
 ghost use Rattle.async_once_cell.specs.declared.once.Contents.TheVariants.{Owned as OwnedValue};
-ghost use Rattle.async_once_cell.specs.Prelude.{is_some, IsMade, LendsIf, sem};
+ghost use Rattle.async_once_cell.specs.Prelude.{CellView, IsWritten, Owned, Settled, about_of, is_shared, view_of};
+ghost use Rattle.async_once_cell.specs.Prelude.{Gives, IsSetIn, Learns, Lends, LendsMut, Looks, is_some, IsMade};
+ghost use Rattle.async_once_cell.specs.Prelude.{LendsIf, sem};
 
 mod future;
 mod known;

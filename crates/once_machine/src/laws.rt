@@ -1,11 +1,11 @@
 //! Laws of every run of a cell, for those who build on it. These functions do nothing: the contract of each is a law
 //! that follows from "the record is a run" alone, which `replay` ensures. In them the newest entry stands first.
 ghost use Rattle.std.specs.Prelude.{◌≡◌, ◌≢◌, ◌≤◌, ◌⊎◌, ℕ, true, false, List, [], ◌∷◌, Some, None, length};
-ghost use Rattle.once_machine.specs.Record.{Answer, RanError, Kind, Reply, Value, Error, Memory, Full, Entry, Claim};
-ghost use Rattle.once_machine.specs.Record.{Ran, Free, Pass, End, DropEnd, is_own};
-ghost use Rattle.once_machine.specs.Prelude.{Empty, Held, SetTo, cell, answers_left, Dropping, Holding, Gone, status};
-ghost use Rattle.once_machine.specs.Prelude.{is_under_way, last_call, IsDue, IsOpen, times_opened, times_handed, Since};
-ghost use Rattle.once_machine.specs.Prelude.{OtherActs, AreWaiting, HasFreed, AtEvery, IsRun, NobodyForgotten};
+ghost use Rattle.once_machine.specs.Prelude.{Answer, RanError, Kind, Reply, Value, Error, Memory, Full, Entry, Claim};
+ghost use Rattle.once_machine.specs.Prelude.{Ran, Free, Pass, End, DropEnd, is_own, Empty, Held, SetTo, cell};
+ghost use Rattle.once_machine.specs.Prelude.{answers_left, Dropping, Holding, Gone, status, is_under_way, last_call};
+ghost use Rattle.once_machine.specs.Prelude.{IsDue, IsOpen, times_opened, times_handed, Since, OtherActs, AreWaiting};
+ghost use Rattle.once_machine.specs.Prelude.{HasFreed, AtEvery, IsRun, NobodyForgotten};
 
 /// At most one task holds the right, whether it rests or is in a call. A task that claims finds the
 /// cell empty, and an init is polled by the task that holds.

@@ -1,10 +1,10 @@
 //! What a step touches of all that the tasks of a cell share.
 ghost use Rattle.std.specs.Prelude.{◌≡◌, true, ⊤};
-ghost use Rattle.once_machine.specs.Table.{Call, Load, Quick, Fast, CountIn, AddOne, CountOut, DoorGet, DoorPut};
-ghost use Rattle.once_machine.specs.Table.{DoorTake, Section, Refuse, Run, Put, counted, wants_copy, Told, Loaded};
-ghost use Rattle.once_machine.specs.Table.{TriedQuick, TriedFast, Added, CountedOut, Got, PutQueue, Taken, Was};
-ghost use Rattle.once_machine.specs.Table.{Refused, Ran, PutValue};
-ghost use Rattle.once_machine.specs.Prelude.{HasWaker, flags_of};
+ghost use Rattle.once_machine.specs.Table.{Ran};
+ghost use Rattle.once_machine.specs.Prelude.{Call, Load, Quick, Fast, CountIn, AddOne, CountOut, DoorGet, DoorPut};
+ghost use Rattle.once_machine.specs.Prelude.{DoorTake, Section, Refuse, Run, Put, counted, wants_copy, Told, Loaded};
+ghost use Rattle.once_machine.specs.Prelude.{TriedQuick, TriedFast, Added, CountedOut, Got, PutQueue, Taken, Was};
+ghost use Rattle.once_machine.specs.Prelude.{Refused, PutValue, HasWaker, flags_of};
 
 pub use crate::log::QueueLine;
 use crate::step::{Polled, RunRight, Side};

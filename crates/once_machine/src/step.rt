@@ -1,8 +1,8 @@
 //! One step of a call at a time, over any parts and any side.
 ghost use Rattle.std.specs.Prelude.{◌≡◌, ◌<◌, ◌≤◌, ◌↔◌, IsTrue, true, false, ⊤};
-ghost use Rattle.once_machine.specs.Steps.{is_value as ends_with_value, SideTells, side_tells_nothing, release_place};
-ghost use Rattle.once_machine.specs.Steps.{leave_place, is_resting, in_call, step_of_poll, step_of_drop};
-ghost use Rattle.once_machine.specs.Prelude.{Polled, left_at, left_of};
+ghost use Rattle.once_machine.specs.Prelude.{is_value as ends_with_value, SideTells, side_tells_nothing, release_place};
+ghost use Rattle.once_machine.specs.Prelude.{leave_place, is_resting, in_call, step_of_poll, step_of_drop, Polled};
+ghost use Rattle.once_machine.specs.Prelude.{left_at, left_of};
 
 mod advance;
 

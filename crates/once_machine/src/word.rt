@@ -1,6 +1,6 @@
 //! The word of a cell: how many tasks are counted in, and two bits.
 ghost use Rattle.std.specs.Prelude.{◌≡◌, false};
-ghost use Rattle.once_machine.specs.Word.{Flags, flags_of, flags_alone, is_zero, is_ready_bit, sees};
+ghost use Rattle.once_machine.specs.Prelude.{Flags, flags_of, flags_alone, is_zero, is_ready_bit, sees};
 
 use std::marker::Model;
 

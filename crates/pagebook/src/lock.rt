@@ -18,8 +18,8 @@
 //!
 //! `J` is a name that stands in one call alone. CALLING.md says how its caller picks it.
 ghost use Rattle.std.specs.Prelude.{◌≡◌};
-ghost use Rattle.pagebook.specs.Pages.{Book, book_coded};
 ghost use Rattle.pagebook.specs.LockRows.{lock_owns, lock_shares};
+ghost use Rattle.pagebook.specs.Prelude.{Book, book_coded};
 
 use crate::tied::{Key, Keyed, LockOf, Tied, opened, sealed};
 use core::mem::replace_with;

@@ -1,6 +1,6 @@
 // What the author of a structure says about its book: the rule, how it begins, and what a step tells.
 ghost use Rattle.core.specs.Prelude.{ℕ, List, ⊤};
-ghost use Rattle.pagebook.specs.Pages.{View};
+ghost use Rattle.pagebook.specs.Prelude.{View};
 
 /// The rule of a book, on a type of the author's that never has a value. `E` is an entry, and `P` what a page says.
 pub trait Rule<E, P> {

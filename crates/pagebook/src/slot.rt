@@ -5,8 +5,8 @@
 // lock, say, or at a join. Neither a note nor a put elsewhere can tell it (`proofs/Book/Untold.antt`), so a caller that
 // may call `get` or `value` has such an order.
 ghost use Rattle.core.specs.Prelude.{◌≡◌, ℕ, ◌+◌, [], drop, slice_get, IfSome};
-ghost use Rattle.pagebook.specs.Slot.{Placed, placed_coded, Rest, resting, shared, written};
-ghost use Rattle.pagebook.specs.Prelude.{IsPrefix, fsep, fex, said, Some, View, Moves, Sure};
+ghost use Rattle.pagebook.specs.Prelude.{Placed, placed_coded, Rest, resting, shared, written, IsPrefix, fsep, fex};
+ghost use Rattle.pagebook.specs.Prelude.{said, Some, View, Moves, Sure};
 
 use crate::rule::{Anything, Fits, Play, Rule};
 use crate::word::{Blanks, Pens, Seen};

@@ -1,6 +1,6 @@
 //! A value that is known to have a key, and a lock of one.
 ghost use Rattle.std.specs.Prelude.{◌≡◌};
-ghost use Rattle.pagebook.specs.Pages.{Book};
+ghost use Rattle.pagebook.specs.Prelude.{Book};
 
 use std::marker::{Brand, PhantomData};
 use std::sync::Mutex;

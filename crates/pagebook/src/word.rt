@@ -2,9 +2,9 @@
 // knows of it, and which pages the thread may change.
 ghost use Rattle.core.specs.Prelude.{◌≡◌, ℕ, ◌+◌, ◌-◌, ◌%◌, ◌^◌, ◌==◌, List, [], ◌++◌, take, drop, slice_get};
 ghost use mathlib.Core.Logic.{◌⊎◌};
-ghost use Rattle.pagebook.specs.Pages.{Book, book_coded, Held, held_coded, Named, named_coded, Moves, Notes, dealt};
-ghost use Rattle.pagebook.specs.Owned.{blanks_own, pens_own, seen_owns, word_pen, word_shares};
-ghost use Rattle.pagebook.specs.Prelude.{IsPrefix, fsep, fex, coded_list, coded_ℕ, said, Some, either};
+ghost use Rattle.pagebook.specs.Prelude.{Book, book_coded, Held, held_coded, Named, named_coded, Moves, Notes, dealt};
+ghost use Rattle.pagebook.specs.Prelude.{blanks_own, pens_own, seen_owns, word_pen, word_shares, IsPrefix, fsep, fex};
+ghost use Rattle.pagebook.specs.Prelude.{coded_list, coded_ℕ, said, Some, either};
 
 use crate::rule::{Opening, Play, Rule};
 use atomic_table::exchange;

@@ -1,12 +1,12 @@
 //! What a task has of its cell's book: its pen, what it has seen of the log, and the moments that it makes without the
 //! lock. Functions that do nothing say what is known of a record, and a trait says whose a waker is.
 ghost use Rattle.std.specs.Prelude.{◌≡◌, ◌≢◌, ℕ, None, true, false, [], ◌∷◌, reverse};
-ghost use Rattle.async_once_cell.specs.Inner.Own.{IsHand, number_in, IsWord, Stayed};
 ghost use Rattle.async_once_cell.specs.Inner.Acts.{Tells};
-ghost use Rattle.once_machine.specs.Table.{CountIn, DoorPut, DoorTake, PutQueue, Refused, Taken, counted};
-ghost use Rattle.async_once_cell.specs.Record.{EndsSet, IsSet, PollsOnce, WasFilled};
-ghost use Rattle.async_once_cell.specs.Inner.Prelude.{IsPrefix, MatchOption, fresh_task, Made, Once, AtEvery, IsRun};
-ghost use Rattle.async_once_cell.specs.Inner.Prelude.{SomebodyCalled, Grew, entries_of, most, Went, call_in, CanRefuse};
+ghost use Rattle.async_once_cell.specs.Inner.Prelude.{IsHand, number_in, IsWord, Stayed, CountIn, DoorPut, DoorTake};
+ghost use Rattle.async_once_cell.specs.Inner.Prelude.{PutQueue, Refused, Taken, counted, EndsSet, IsSet, PollsOnce};
+ghost use Rattle.async_once_cell.specs.Inner.Prelude.{WasFilled, IsPrefix, MatchOption, fresh_task, Made, Once};
+ghost use Rattle.async_once_cell.specs.Inner.Prelude.{AtEvery, IsRun, SomebodyCalled, Grew, entries_of, most, Went};
+ghost use Rattle.async_once_cell.specs.Inner.Prelude.{call_in, CanRefuse};
 
 use super::book::{CellPens, CellWord, Leaf, Line, Record};
 use once_machine::parts::Counted;

@@ -1,8 +1,8 @@
 //! What the tasks of a cell share, and that as one task uses it. Why the value, which lies beside the words, may be
 //! written and read plainly is said at the head of `slot.rt` in `pagebook`.
 ghost use Rattle.std.specs.Prelude.{◌≡◌, ◌^◌, if◌then◌else◌, [], true, IfSome, IsSome, List, ◌∷◌, reverse};
-ghost use Rattle.once_machine.specs.Table.{CountIn, Load, Loaded, Put, PutValue, counted as count_told};
 ghost use Rattle.async_once_cell.specs.Inner.Hands.{own_of};
+ghost use Rattle.async_once_cell.specs.Inner.Prelude.{CountIn, Load, Loaded, Put, PutValue, counted as count_told};
 ghost use Rattle.async_once_cell.specs.Inner.Prelude.{IsWord, Turned, flags_of, Went, call_in, EndsSet, Looked};
 ghost use Rattle.async_once_cell.specs.Inner.Prelude.{WasFilled, Writes as Wrote, Puts as HasPut, is_some, Entry, Made};
 ghost use Rattle.async_once_cell.specs.Inner.Prelude.{Begin, fresh_task, drop_entries, Grew, is_resting, step_of_drop};

@@ -2,14 +2,14 @@
 //! keeps between two calls, and its steps.
 ghost use Rattle.std.specs.Prelude.{◌≡◌, ◌≢◌, ◌<◌, ℕ, true, false, List, [], ◌∷◌, IsSome, IsSomeAnd, IfErr, IfOk, None};
 ghost use Rattle.std.specs.Prelude.{Option, Some, Ok};
-ghost use Rattle.once_machine.specs.Record.{DropBegin, DropEnd, Entry, Made};
 ghost use Rattle.async_once_cell.specs.Inner.Shares.{cell_of, own};
-ghost use Rattle.async_once_cell.specs.Walks.{IsCall, Spans, StandsOn, end_of, handed};
 ghost use Rattle.async_once_cell.specs.Inner.Hands.{HasRight, HasRun};
-ghost use Rattle.async_once_cell.specs.Inner.Prelude.{IfReady, OnPending, IsArmed, Keeps, IsPrefix, Grew, entries_of};
-ghost use Rattle.async_once_cell.specs.Inner.Prelude.{EndsSet, IsSet, Ending, is_over, step_of, in_call, is_resting};
-ghost use Rattle.async_once_cell.specs.Inner.Prelude.{GivesFit, IsReady, IsTold, Sided, KeepsOwner, TaskView};
-ghost use Rattle.async_once_cell.specs.Inner.Prelude.{HasPolled, GivesNoOther, MayGive, polled_in, given_error};
+ghost use Rattle.async_once_cell.specs.Inner.Prelude.{DropBegin, DropEnd, Entry, Made, IsCall, Spans, StandsOn, end_of};
+ghost use Rattle.async_once_cell.specs.Inner.Prelude.{handed, IfReady, OnPending, IsArmed, Keeps, IsPrefix, Grew};
+ghost use Rattle.async_once_cell.specs.Inner.Prelude.{entries_of, EndsSet, IsSet, Ending, is_over, step_of, in_call};
+ghost use Rattle.async_once_cell.specs.Inner.Prelude.{is_resting, GivesFit, IsReady, IsTold, Sided, KeepsOwner};
+ghost use Rattle.async_once_cell.specs.Inner.Prelude.{TaskView, HasPolled, GivesNoOther, MayGive, polled_in};
+ghost use Rattle.async_once_cell.specs.Inner.Prelude.{given_error};
 
 use super::book::{CellSlot, Record};
 use super::hand::{Hand, Mark, TaskWaker};

@@ -1,11 +1,11 @@
 //! The future of a cell that owns its init.
 ghost use Rattle.std.specs.Prelude.{◌≡◌, ◌≢◌, ⊤, ℕ, IfSome, IsSome, List, None, Option, Result, false, true, reverse};
-ghost use Rattle.async_once_cell.specs.Polls.{Answers, DidPoll, HasLeft, IfValue, IsMade, IsValue, IsValueAtOnce};
-ghost use Rattle.async_once_cell.specs.Polls.{Polls, PollsAs, SpansIn, Waits, ending_by, ending_of_refusal, value_of};
-ghost use Rattle.async_once_cell.specs.Record.{IsSet, PollsOnce, WasFilled};
-ghost use Rattle.async_once_cell.specs.Prelude.{option_or, Bor, IfReady, OnPending, Covers, Keeps, IsPrefix, Agrees};
-ghost use Rattle.async_once_cell.specs.Prelude.{IsSetIn, about_of, is_shared, MayGive, entries_of, most, end_of};
-ghost use Rattle.async_once_cell.specs.Prelude.{SomebodyCalled, Once, AtEvery, IsRun, NobodyForgotten};
+ghost use Rattle.async_once_cell.specs.Prelude.{Answers, DidPoll, HasLeft, IfValue, IsMade, IsValue, IsValueAtOnce};
+ghost use Rattle.async_once_cell.specs.Prelude.{Polls, PollsAs, SpansIn, Waits, ending_by, ending_of_refusal, value_of};
+ghost use Rattle.async_once_cell.specs.Prelude.{IsSet, PollsOnce, WasFilled, option_or, Bor, IfReady, OnPending};
+ghost use Rattle.async_once_cell.specs.Prelude.{Covers, Keeps, IsPrefix, Agrees, IsSetIn, about_of, is_shared, MayGive};
+ghost use Rattle.async_once_cell.specs.Prelude.{entries_of, most, end_of, SomebodyCalled, Once, AtEvery, IsRun};
+ghost use Rattle.async_once_cell.specs.Prelude.{NobodyForgotten};
 
 use crate::error::Refused;
 use crate::inner::{Failed, Hand, Init, Pollable, Yields};

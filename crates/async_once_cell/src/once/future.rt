@@ -1,12 +1,12 @@
 //! The future of a cell. Three names stand for it, by what its init gives and what it answers.
 ghost use Rattle.std.specs.Prelude.{◌≡◌, ◌≢◌, ⊤, IfSome, IsSome, None, Result, Some, false, true, reverse};
-ghost use Rattle.async_once_cell.specs.Polls.{Answers, AnswersOwn, DidPoll, HasLeft, IsMade, IsValue, Polls, PollsAs};
-ghost use Rattle.async_once_cell.specs.Polls.{SpansIn, ending_by, value_of};
 ghost use Rattle.async_once_cell.specs.Futures.{IsOfCell, KeepsPromise, view_of_future};
-ghost use Rattle.async_once_cell.specs.Prelude.{option_or, Bor, IfReady, OnPending, Covers, Keeps, IsPrefix};
-ghost use Rattle.async_once_cell.specs.Prelude.{GivesNoOther, TellsOwn, Agrees, IsSetIn, IsOf, about_of, is_shared};
-ghost use Rattle.async_once_cell.specs.Prelude.{known_of, log_of, FutureView, Once, AtEvery, IsRun, NobodyForgotten};
-ghost use Rattle.async_once_cell.specs.Prelude.{SomebodyCalled, entries_of, most, end_of, IsSet, PollsOnce, WasFilled};
+ghost use Rattle.async_once_cell.specs.Prelude.{Answers, AnswersOwn, DidPoll, HasLeft, IsMade, IsValue, Polls, PollsAs};
+ghost use Rattle.async_once_cell.specs.Prelude.{SpansIn, ending_by, value_of, option_or, Bor, IfReady, OnPending};
+ghost use Rattle.async_once_cell.specs.Prelude.{Covers, Keeps, IsPrefix, GivesNoOther, TellsOwn, Agrees, IsSetIn, IsOf};
+ghost use Rattle.async_once_cell.specs.Prelude.{about_of, is_shared, known_of, log_of, FutureView, Once, AtEvery};
+ghost use Rattle.async_once_cell.specs.Prelude.{IsRun, NobodyForgotten, SomebodyCalled, entries_of, most, end_of};
+ghost use Rattle.async_once_cell.specs.Prelude.{IsSet, PollsOnce, WasFilled};
 
 use super::known::Seen;
 use super::{Contents, Known, OnceCell};

@@ -1,8 +1,9 @@
 //! Tokens: what their holder has learned of one cell. And what was told of it, for its owner.
 ghost use Rattle.std.specs.Prelude.{◌≡◌, ◌↔◌, ◌⊎◌, IfSome, IsSome, IsTrue, MatchOption, None, Some, true, reverse};
-ghost use Rattle.async_once_cell.specs.Views.{CellView, IsOf, Shows, ToldView, TokenView, is_shared, known_of, log_of};
-ghost use Rattle.async_once_cell.specs.Prelude.{is_some, option_or, IsPrefix, Once, AtEvery, IsRun, NobodyForgotten};
-ghost use Rattle.async_once_cell.specs.Prelude.{SomebodyCalled, most, IsSet, PollsOnce, WasFilled, Agrees, IsSetIn};
+ghost use Rattle.async_once_cell.specs.Prelude.{CellView, IsOf, Shows, ToldView, TokenView, is_shared, known_of};
+ghost use Rattle.async_once_cell.specs.Prelude.{log_of, is_some, option_or, IsPrefix, Once, AtEvery, IsRun};
+ghost use Rattle.async_once_cell.specs.Prelude.{NobodyForgotten, SomebodyCalled, most, IsSet, PollsOnce, WasFilled};
+ghost use Rattle.async_once_cell.specs.Prelude.{Agrees, IsSetIn};
 
 use super::{Contents, OnceCell};
 use crate::inner::Record;

@@ -1,7 +1,7 @@
 //! The calls by which a thread waits for a value, and where it sleeps meanwhile.
 ghost use Rattle.std.specs.Prelude.{◌≡◌, IfOk, None, false, true};
-ghost use Rattle.async_once_cell.specs.Polls.{IfValue, IsValueAtOnce, Waits};
-ghost use Rattle.async_once_cell.specs.Prelude.{TellsOwn, IsPrefix, IsSetIn, about_of, is_shared};
+ghost use Rattle.async_once_cell.specs.Prelude.{IfValue, IsValueAtOnce, Waits, TellsOwn, IsPrefix, IsSetIn, about_of};
+ghost use Rattle.async_once_cell.specs.Prelude.{is_shared};
 
 use super::{Initializing, Known};
 use crate::error::Failure;
