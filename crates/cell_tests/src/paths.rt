@@ -10,7 +10,7 @@ use std::test::Fail;
 #[test]
 fn a_list(rt: HostRuntime) {
     let mut lists = Lists::new(rt.alloc());
-    let answers = [7, 8].map(|waker| lists.list(&mut None, &mut Some(waker), NEW));
+    let answers = [7, 8].map(|waker| lists.list(&mut None, &mut Some(waker), NEW).0);
     assert_eq!(rt; answers, [Answer::Claimed, Answer::Listed]);
 }
 

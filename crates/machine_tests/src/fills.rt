@@ -12,7 +12,7 @@ const NOTES: usize = 64;
 
 // Lists a waker by this ticket, and says whether it is listed then.
 fn list(lists: &mut Lists<u64>, mut ticket: Option<u64>, waker: u64) -> bool {
-    lists.list(&mut ticket, &mut Some(waker), NEW) == Answer::Listed
+    lists.list(&mut ticket, &mut Some(waker), NEW).0 == Answer::Listed
 }
 
 // One task that holds, and four that wait. The first of these listed itself anew, and so the list has room for

@@ -48,7 +48,7 @@ fn a_list_has_who_waits_once(rt: HostRuntime) -> Result<(), Fail> {
 fn row_listed_otherwise(lists: &mut Lists<u64>, rows: &[Row]) -> Option<usize> {
     for (number, (before, waker, word, answer, after)) in rows.iter().enumerate() {
         let mut ticket = *before;
-        let heard = lists.list(&mut ticket, &mut Some(*waker), *word);
+        let heard = lists.list(&mut ticket, &mut Some(*waker), *word).0;
         if heard != *answer || ticket != *after {
             return Some(number);
         }
@@ -119,9 +119,9 @@ fn one_is_called_and_leaves(rt: HostRuntime) {
 fn one_leaves(lists: &mut Lists<u64>) -> ([Option<Option<u64>>; 3], [bool; 3], [Option<u64>; 2]) {
     let first = called(lists);
     let listed = [lists.is_listed(Some(0)), lists.is_listed(Some(1))];
-    let left = lists.leave(0, QINIT_BIT);
+    let left = lists.leave(0, QINIT_BIT).0;
     let still = lists.is_listed(Some(0));
-    let again = lists.leave(0, NEW);
+    let again = lists.leave(0, NEW).0;
     let more = [called(lists), called(lists)];
     (
         [first, more[0], more[1]],
@@ -135,7 +135,7 @@ fn one_leaves(lists: &mut Lists<u64>) -> ([Option<Option<u64>>; 3], [bool; 3], [
 fn a_turn_is_passed_on_or_taken(rt: HostRuntime) {
     let mut lists = two_listed(rt.alloc());
     let first = called(&mut lists);
-    let next = lists.leave(0, NEW);
+    let next = lists.leave(0, NEW).0;
     let mut ticket = Some(1);
     let is_claimed = lists.look(&mut ticket, Some(&8), NEW) == Answer::Claimed;
     let left = (lists.head, lists.len());

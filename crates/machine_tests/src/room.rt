@@ -79,7 +79,7 @@ impl Waiting {
     }
 
     fn list(&mut self, task: u64, ticket: &mut Option<u64>) {
-        let answer = self.lists.list(ticket, &mut Some(task), NEW);
+        let answer = self.lists.list(ticket, &mut Some(task), NEW).0;
         self.is_granted &= answer == Answer::Listed;
     }
 }

@@ -191,25 +191,10 @@ impl<W: WakerId + Drop> Lists<W> {
 
     /// As [`look`](Self::look), but if the right is taken, lists the waker at the end: with the own ticket, whose old
     /// listing is taken out, or if that has none, with the least free ticket. A waker that was not listed stays in the
-    /// option. `Memory` says that the own ticket has no listing and the list, which is as it was, could not grow.
-    pub fn list(&mut self, ticket: &mut Option<u64>, waker: &mut Option<W>, word: u64) -> Answer<W>
-        requires { IsSome waker.old }
-        ensures claims { Claims (sees (flags_of word) self.old.head)
-            (claimant self.old ticket.old) result (claimant self.new ticket.new) }
-        ensures held { sees (flags_of word) self.old.head ≡ Sees.Taken → IfSome waker.old
-            (λ w. DidList ticket.old w (listings_of self.old) result ticket.new waker.new (listings_of self.new)) }
-        ensures head { sees (flags_of word) self.old.head ≡ Sees.Taken → self.new.head ≡ self.old.head }
-        ensures waker { sees (flags_of word) self.old.head ≢ Sees.Taken → waker.new ≡ waker.old }
-        ensures room { HasSpace self.old → result ≢ Answer.Memory }
-        ensures memory { capacity_of self.new ≤ max (capacity_of self.old) (4 * (length (listings_of self.old) + 1)) }
-    {
-        let (answer, _) = self.list_own(ticket, waker, word);
-        answer
-    }
-
-    /// As [`list`](Self::list). A claim answers the waker of its listing too.
+    /// option. `Memory` says that the own ticket has no listing and the list, which is as it was, could not grow. A
+    /// claim answers the waker of the own listing too.
     #[inline(always)]
-    pub fn list_own(
+    pub fn list(
         &mut self,
         ticket: &mut Option<u64>,
         waker: &mut Option<W>,
@@ -260,23 +245,9 @@ impl<W: WakerId + Drop> Lists<W> {
     }
 
     /// Takes the listing with this ticket out. If it was woken, the value is not set and nobody holds, the first that
-    /// was not woken yet gives its waker, and stays. It takes no memory.
-    pub fn leave(&mut self, ticket: u64, word: u64) -> Option<W>
-        ensures waker { result ≡ next_waker
-            (passes_turn (is_free (sees (flags_of word) self.old.head)) ticket (listings_of self.old))
-            ticket (listings_of self.old) }
-        ensures listings { listings_of self.new ≡ left_list
-            (passes_turn (is_free (sees (flags_of word) self.old.head)) ticket (listings_of self.old))
-            ticket (listings_of self.old) }
-        ensures head { self.new.head ≡ self.old.head }
-        ensures memory { capacity_of self.new ≡ capacity_of self.old }
-    {
-        let (next, _) = self.leave_own(ticket, word);
-        next
-    }
-
-    /// As [`leave`](Self::leave). It answers the waker that the own listing had too.
-    pub fn leave_own(&mut self, ticket: u64, word: u64) -> (Option<W>, Option<W>)
+    /// was not woken yet gives its waker, and stays. It answers that waker, and the one that the own listing had. It
+    /// takes no memory.
+    pub fn leave(&mut self, ticket: u64, word: u64) -> (Option<W>, Option<W>)
         ensures waker { result.0 ≡ next_waker
             (passes_turn (is_free (sees (flags_of word) self.old.head)) ticket (listings_of self.old))
             ticket (listings_of self.old) }

@@ -132,7 +132,7 @@ impl<W: WakerId + Drop> Core<W> {
     {
         let word = self.word.bits();
         if self.granted || self.lists.is_listed(*ticket) {
-            return self.lists.list(ticket, waker, word);
+            return self.lists.list(ticket, waker, word).0;
         }
         match self.lists.look(ticket, waker.as_ref(), word) {
             Answer::Held => Answer::Memory,
@@ -162,7 +162,7 @@ impl<W: WakerId + Drop> Core<W> {
         ensures state { state_of self.new ≡ leave_state ticket (state_of self.old) }
     {
         let word = self.word.bits();
-        self.lists.leave(ticket, word)
+        self.lists.leave(ticket, word).0
     }
 
     fn take_out(&mut self) -> bool

@@ -168,7 +168,7 @@ impl<W: TaskWaker + Drop> Desk<W> {
         let room = has_room(lists, *ticket);
         let found = see(word, &mut self.pens, hand, room);
         if room {
-            return lists.list_own(ticket, waker, found);
+            return lists.list(ticket, waker, found);
         }
         (list_without_room(lists, ticket, found), None)
     }
@@ -232,7 +232,7 @@ impl<W: TaskWaker + Drop> Desk<W> {
         let lists = &mut **queue;
         let room = true; // a leaver lists no waker
         let found = see(word, &mut self.pens, hand, room);
-        lists.leave_own(ticket, found)
+        lists.leave(ticket, found)
     }
 }
 

@@ -10,9 +10,9 @@ invariant_of-self g c =
     let r = c.has_room-room.ensures in
     let s = roomed whose c.has_room-room.new.lists r.head r.listings c.if-room.true
     (in_section whose c.self.invariant.1 c.note.ensures.told.0 c.in-Some.is c.deref_mut-lists.ensures.value c.requires.can c.note.ensures.told.1 c.see-found.ensures.told) in
-    let e = c.list_own.ensures in (
+    let e = c.list.ensures in (
       c.see-found.ensures.desk,
-      (list_ends whose c.args.waker.now c.list_own.new.waker c.list_own.new.ticket c.list_own.new.self c.list_own.result.0 c.requires.can s
+      (list_ends whose c.args.waker.now c.list.new.waker c.list.new.ticket c.list.new.self c.list.result.0 c.requires.can s
           (⊎_elim inl (λ h. inr (e.room h)) (r.room c.if-room.true)) e.claims e.held e.head).0,
     )
 
@@ -22,8 +22,8 @@ returns-then-room-clause-did g c =
     let r = c.has_room-room.ensures in
     let s = roomed whose c.has_room-room.new.lists r.head r.listings c.if-room.true
     (in_section whose c.self.invariant.1 c.note.ensures.told.0 c.in-Some.is c.deref_mut-lists.ensures.value c.requires.can c.note.ensures.told.1 c.see-found.ensures.told) in
-    let e = c.list_own.ensures in (
-      (list_ends whose c.args.waker.now c.list_own.new.waker c.list_own.new.ticket c.list_own.new.self c.list_own.result.0 c.requires.can s
+    let e = c.list.ensures in (
+      (list_ends whose c.args.waker.now c.list.new.waker c.list.new.ticket c.list.new.self c.list.result.0 c.requires.can s
           (⊎_elim inl (λ h. inr (e.room h)) (r.room c.if-room.true)) e.claims e.held e.head).1,
       tt,
     )
