@@ -219,10 +219,12 @@ impl<W: WakerId + Drop> Lists<W> {
             return (Answer::Memory, None);
         };
         *ticket = Some(mine);
-        self.push(Listing {
+        let listing = Listing {
             ticket: mine,
             waker: waker.take(),
-        });
+        };
+        self.mixed |= may_repeat(&listing, self.slots.as_slice());
+        self.slots.push(listing);
         (Answer::Listed, None)
     }
 
@@ -415,20 +417,6 @@ impl<W: WakerId + Drop> Lists<W> {
         ensures memory { capacity_of self.new ≡ capacity_of self.old }
     {
         self.slots.take_out(ticket)
-    }
-
-    #[inline(always)]
-    fn push(&mut self, listing: Listing<W>)
-        requires new { member listing.ticket (tickets (listings_of self.old)) ≡ false }
-        requires slot { HasSlot self.old.slots }
-        requires mark { (listing.ticket < vec_len self.old.slots.used)
-            ⊎ ((listing.ticket ≡ vec_len self.old.slots.used) × HasMark self.old.slots) }
-        ensures listings { listings_of self.new ≡ listings_of self.old ++ listing ∷ [] }
-        ensures head { self.new.head ≡ self.old.head }
-        ensures memory { capacity_of self.new ≡ capacity_of self.old }
-    {
-        self.mixed |= may_repeat(&listing, self.slots.as_slice());
-        self.slots.push(listing);
     }
 
     fn call_first(&mut self) -> Option<W>
