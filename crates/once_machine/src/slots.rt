@@ -187,7 +187,9 @@ impl<W: Drop> Slots<W> {
         ensures memory { capacity_in self.new ≤ max (capacity_in self.old) (4 * (length (listings_in self.old) + 1)) }
     {
         self.close_many_holes();
-        reserve_one(&mut self.slots)?;
+        if self.slots.len() == self.slots.capacity() {
+            double(&mut self.slots)?;
+        }
         self.used.reserve(1)?;
         // Without this memory a listing is found by a search.
         let _ = self.places.reserve(1);
@@ -203,7 +205,7 @@ impl<W: Drop> Slots<W> {
         ensures memory { capacity_in self.new ≤ max (capacity_in self.old) (4 * (length (listings_in self.old) + 1)) }
     {
         self.close_many_holes();
-        if reserve_one(&mut self.slots).is_err() {
+        if self.slots.len() == self.slots.capacity() && double(&mut self.slots).is_err() {
             self.close_holes();
         }
     }
@@ -298,23 +300,8 @@ impl<W: Drop> Slots<W> {
     }
 }
 
-// Makes room for one more: four at first, and then twice as much.
-fn reserve_one<T>(slots: &mut Vec<T>) -> Result<(), AllocError>
-    ensures items { slots.new.items ≡ slots.old.items }
-    ensures len { vec_len slots.new ≡ vec_len slots.old }
-    ensures room { OnOk result (vec_len slots.new < vec_capacity slots.new) }
-    ensures succeeds { vec_len slots.old < vec_capacity slots.old → IsOk result }
-    ensures least { vec_capacity slots.old ≤ vec_capacity slots.new }
-    ensures most { (vec_capacity slots.new ≡ vec_capacity slots.old) ⊎ ((vec_len slots.old ≡ vec_capacity slots.old)
-        × (vec_capacity slots.new ≤ 2 * vec_len slots.old + 4)) }
-{
-    if slots.len() < slots.capacity() {
-        return Ok(());
-    }
-    double(slots)
-}
-
-// Apart, so that a section has no more of it than a call.
+// Makes room for one more: four at first, and then twice as much. It stands apart, so that a section has no more of it
+// than a call.
 #[cold]
 #[inline(never)]
 fn double<T>(slots: &mut Vec<T>) -> Result<(), AllocError>
