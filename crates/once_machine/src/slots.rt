@@ -1,8 +1,7 @@
 //! The listings of those that wait, in their order, each found by its ticket without a search.
 ghost use Rattle.std.specs.Prelude.{◌≡◌, ◌==◌, ◌<◌, ◌≤◌, ◌+◌, ◌*◌, max, ◌⊎◌, ◌++◌, ◌∷◌, [], ℕ, true, false};
 ghost use Rattle.std.specs.Prelude.{if◌then◌else◌, Some, None, IsSome, IfSome, IfOk, IsOk, OnOk, length, vec_len};
-ghost use Rattle.std.specs.Prelude.{vec_capacity, HoldsAt, filter};
-ghost use Rattle.std.specs.List.{position};
+ghost use Rattle.std.specs.Prelude.{vec_capacity, HoldsAt, filter, position};
 ghost use Rattle.once_machine.specs.Prelude.{option_copied, option_map, is_distinct, member, is_marked, tickets};
 ghost use Rattle.once_machine.specs.Prelude.{find_listing, take_out, first_waker, call_first, new_ticket};
 ghost use Rattle.once_machine.specs.Prelude.{lent_listings, hole, is_kept, is_open, Renewed};
@@ -98,6 +97,7 @@ impl<W: Drop> Slots<W> {
     /// Takes the listing with this ticket out, if one has it.
     pub fn take_out(&mut self, ticket: u64) -> Option<Listing<W>>
         ensures waker { option_map (λ x. x.waker) result ≡ find_listing ticket (listings_in self.old) }
+        ensures own { IfSome result (λ x. x.ticket ≡ ticket) }
         ensures listings { listings_in self.new ≡ take_out ticket (listings_in self.old) }
         ensures none { result ≡ None → self.new ≡ self.old }
         ensures mark { IsSome result → ticket < vec_len self.new.used }
@@ -246,11 +246,7 @@ impl<W: Drop> Slots<W> {
     {
         let place = *self.places.get(ticket as usize)?;
         let slot = self.slots.get(place)?;
-        if slot.ticket == ticket {
-            Some(place)
-        } else {
-            None
-        }
+        (slot.ticket == ticket).then_some(place)
     }
 
     fn searched(&self, ticket: u64) -> Option<usize>

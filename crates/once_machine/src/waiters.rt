@@ -1,8 +1,7 @@
 //! The waiters: the flag and the list under the cell's lock, and what a section does with them.
-ghost use Rattle.std.specs.Prelude.{◌≡◌, ◌≢◌, ◌↔◌, ◌+◌, ◌*◌, ◌<◌, ◌≤◌, max, ◌⊎◌, ◌++◌, ◌∷◌, [], ℕ, true, false};
-ghost use Rattle.std.specs.Prelude.{if◌then◌else◌, IsSome, IfSome, IsOk, IfOk, OnOk, OnErr, All, length, Some, None};
-ghost use Rattle.std.specs.Prelude.{vec_len};
-ghost use Rattle.std.specs.List.{AllPairs, HoldsAt};
+ghost use Rattle.std.specs.Prelude.{◌≡◌, ◌≢◌, ◌↔◌, ◌+◌, ◌*◌, ◌<◌, ◌≤◌, max, ◌⊎◌, [], ℕ, true, false, if◌then◌else◌};
+ghost use Rattle.std.specs.Prelude.{IsSome, IfSome, IsOk, IfOk, OnOk, OnErr, All, length, Some, None, vec_len};
+ghost use Rattle.std.specs.Prelude.{AllPairs, HoldsAt};
 ghost use Rattle.once_machine.specs.Slots.{listings_in, HasMark, HasSlot};
 ghost use Rattle.once_machine.specs.Prelude.{MatchOption, option_copied, option_flatten, option_map, is_some, member};
 ghost use Rattle.once_machine.specs.Prelude.{tickets, Listing, find_listing, own_listing, take_out, list_without};
@@ -223,7 +222,7 @@ impl<W: WakerId + Drop> Lists<W> {
             ticket: mine,
             waker: waker.take(),
         };
-        self.mixed |= may_repeat(&listing, self.slots.as_slice());
+        self.mixed |= repeats(&listing, self.slots.as_slice());
         self.slots.push(listing);
         (Answer::Listed, None)
     }
@@ -260,7 +259,7 @@ impl<W: WakerId + Drop> Lists<W> {
         ensures head { self.new.head ≡ self.old.head }
         ensures memory { capacity_of self.new ≡ capacity_of self.old }
     {
-        let Some(Listing { ticket: _, waker }) = self.take_out(ticket) else {
+        let Some(Listing { ticket: _, waker }) = self.take_out(Some(ticket)) else {
             return (None, None);
         };
         match Word::from_bits(word).sees(self.head) {
@@ -318,24 +317,14 @@ impl<W: WakerId + Drop> Lists<W> {
             Sees::Set => Some((Answer::Ready, None)),
             Sees::Taken => None,
             Sees::Free => {
-                let spent = self.spend(ticket);
+                let spent = match self.take_out(ticket.take()) {
+                    Some(Listing { ticket: _, waker }) => waker,
+                    None => None,
+                };
                 self.head = true;
                 Some((Answer::Claimed, spent))
             }
         }
-    }
-
-    #[inline(always)]
-    fn spend(&mut self, ticket: &mut Option<u64>) -> Option<W>
-        ensures spent { result ≡ option_flatten (own_listing ticket.old (listings_of self.old)) }
-        ensures listings { listings_of self.new ≡ list_without ticket.old (listings_of self.old) }
-        ensures ticket { ticket.new ≡ None }
-        ensures head { self.new.head ≡ self.old.head }
-        ensures memory { capacity_of self.new ≡ capacity_of self.old }
-    {
-        let mine = ticket.take()?;
-        let Listing { ticket: _, waker } = self.take_out(mine)?;
-        waker
     }
 
     /// Whether the own ticket has a listing.
@@ -382,41 +371,28 @@ impl<W: WakerId + Drop> Lists<W> {
         ensures head { self.new.head ≡ self.old.head }
         ensures memory { capacity_of self.new ≤ max (capacity_of self.old) (4 * (length (listings_of self.old) + 1)) }
     {
-        if let Some(kept) = self.take_own(ticket) {
+        if let Some(own) = self.take_out(ticket) {
             self.slots.make_room();
-            return Ok(kept);
+            return Ok(own.ticket);
         }
         self.reserve()?;
         Ok(self.slots.free_ticket())
     }
 
+    // Takes the own listing out.
     #[inline(always)]
-    fn take_own(&mut self, ticket: Option<u64>) -> Option<u64>
-        ensures kept { result ≡ kept_ticket ticket (listings_of self.old) }
+    fn take_out(&mut self, ticket: Option<u64>) -> Option<Listing<W>>
+        ensures waker { option_map (λ x. x.waker) result ≡ own_listing ticket (listings_of self.old) }
+        ensures own { IfSome result (λ x. ticket ≡ Some x.ticket) }
         ensures listings { listings_of self.new ≡ list_without ticket (listings_of self.old) }
         ensures head { self.new.head ≡ self.old.head }
-        ensures mark { IfSome result (λ n. n < vec_len self.new.slots.used) }
-        ensures hole { IsSome result → length (listings_of self.new) < vec_len self.new.slots.slots }
         ensures none { result ≡ None → listings_of self.new ≡ listings_of self.old }
         ensures room { result ≡ None → HasSpace self.old → HasSpace self.new }
-        ensures memory { capacity_of self.new ≡ capacity_of self.old }
-    {
-        let mine = ticket?;
-        self.take_out(mine)?;
-        Some(mine)
-    }
-
-    fn take_out(&mut self, ticket: u64) -> Option<Listing<W>>
-        ensures waker { option_map (λ x. x.waker) result ≡ find_listing ticket (listings_of self.old) }
-        ensures listings { listings_of self.new ≡ take_out ticket (listings_of self.old) }
-        ensures head { self.new.head ≡ self.old.head }
-        ensures none { result ≡ None → listings_of self.new ≡ listings_of self.old }
-        ensures room { result ≡ None → HasSpace self.old → HasSpace self.new }
-        ensures mark { IsSome result → ticket < vec_len self.new.slots.used }
+        ensures mark { IfSome result (λ x. x.ticket < vec_len self.new.slots.used) }
         ensures hole { IsSome result → length (listings_of self.new) < vec_len self.new.slots.slots }
         ensures memory { capacity_of self.new ≡ capacity_of self.old }
     {
-        self.slots.take_out(ticket)
+        self.slots.take_out(ticket?)
     }
 
     fn call_first(&mut self) -> Option<W>
@@ -446,13 +422,6 @@ fn once_each<W: WakerId + Drop>(listings: &mut Vec<Listing<W>>, mixed: bool)
     }
 }
 
-fn may_repeat<W: WakerId>(listing: &Listing<W>, before: &[Listing<W>]) -> bool
-    ensures { result ≡ false → IfSome listing.now.waker
-        (λ w. All (λ x. IfSome x.waker (λ v. W.tells_other v w)) before.now) }
-{
-    !W::are_all_other() && repeats(listing, before)
-}
-
 fn repeats<W: WakerId>(listing: &Listing<W>, before: &[Listing<W>]) -> bool
     ensures yes { result ≡ true → MatchOption listing.now.waker ⊥ (λ w. (k : ℕ) × (k < length before.now)
         × HoldsAt (λ x. MatchOption x.waker ⊥ (λ v. W.tells_same v w)) before.now k) }
@@ -460,8 +429,8 @@ fn repeats<W: WakerId>(listing: &Listing<W>, before: &[Listing<W>]) -> bool
         (λ w. All (λ x. IfSome x.waker (λ v. W.tells_other v w)) before.now) }
 {
     match &listing.waker {
-        Some(waker) => before.iter().any(|earlier| has(earlier, waker)),
-        None => false,
+        Some(waker) if !W::are_all_other() => before.iter().any(|earlier| has(earlier, waker)),
+        _ => false,
     }
 }
 

@@ -61,8 +61,9 @@ module _ {W : Type 0} where
       → option_map (λ x. x.waker) o ≡ find_listing n xs → is_some o ≡ is_some (kept_ticket (Some n) xs)
   found_kept n o xs e = some_by o (find_listing n xs) e ∙ find_member n xs ∙ kept_listed (member n (tickets xs)) n
 
-  pub kept_none : (n : ℕ) (xs : List (Listing W)) → find_listing n xs ≡ None → kept_ticket (Some n) xs ≡ None
-  kept_none n xs e = rw (sym (find_member n xs), e) refl
+  pub kept_none : (k : Option ℕ) (xs : List (Listing W)) → own_listing k xs ≡ None → kept_ticket k xs ≡ None
+  kept_none None xs e = refl
+  kept_none (Some n) xs e = rw (sym (find_member n xs), e) refl
 
   pub kept_some : (n : ℕ) (w : Option W) (xs : List (Listing W)) → find_listing n xs ≡ Some w → kept_ticket (Some n) xs ≡ Some n
   kept_some n w xs e = rw (sym (find_member n xs), e) refl

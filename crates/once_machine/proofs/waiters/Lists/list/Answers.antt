@@ -9,6 +9,6 @@ invariant_of-self g c =
     let lists = c.ticket_to_list_by.new.self in
     let other = g.W.WakerId.tells_other in
     record {
-      apart = λ m. rw c.push.ensures.listings (apart_listed other lists.mixed c.may_repeat.result (listings_in lists.slots) _ m lists.apart
-          (λ r. rw c.as_slice.ensures (other_kept other is_kept _ c.as_slice.result.now (c.may_repeat.ensures r))));
+      apart = λ m. rw c.push.ensures.listings (apart_listed other lists.mixed c.repeats.result (listings_in lists.slots) _ m lists.apart
+          (λ r. rw c.as_slice.ensures (other_kept other is_kept _ c.as_slice.result.now (c.repeats.ensures.no r))));
     }
