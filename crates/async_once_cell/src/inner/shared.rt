@@ -1,6 +1,6 @@
 //! What the tasks of a cell share, and that as one task uses it. Why the value, which lies beside the words, may be
 //! written and read plainly is said at the head of `slot.rt` in `pagebook`.
-ghost use Rattle.std.specs.Prelude.{◌≡◌, ◌^◌, if◌then◌else◌, [], true, IfSome, IsSome, List, ◌∷◌, reverse};
+ghost use Rattle.std.specs.Prelude.{◌≡◌, [], true, IfSome, IsSome, List, ◌∷◌, reverse};
 ghost use Rattle.async_once_cell.specs.Inner.Hands.{own_of};
 ghost use Rattle.async_once_cell.specs.Inner.Prelude.{CountIn, Load, Loaded, Put, PutValue, counted as count_told};
 ghost use Rattle.async_once_cell.specs.Inner.Prelude.{IsWord, Turned, flags_of, Went, call_in, EndsSet, Looked};
@@ -92,8 +92,10 @@ impl<T, W: TaskWaker + Drop, V: Fits<T>> Inner<T, W, V> {
     }
 
     /// A new task.
+    #[inline(always)]
     pub fn task<'a, 'r, R>(&'a self, rt: &'r R) -> Shared<'a, 'r, T, W, R, V>
         ensures cell { cell_of result ≡ self.now.slot }
+        ensures idle { result.idle ≡ Idle.New }
         ensures task { (own result).task ≡ fresh_task }
         ensures log { (seen : List Entry) × Grew (Made (own result).number ∷ []) seen (own result).log }
     {
@@ -197,8 +199,8 @@ unsafe impl<T: Send, W: TaskWaker + Send, V: Fits<T>> Send for Inner<T, W, V> {}
 
 unsafe impl<T: Send + Sync, W: TaskWaker + Send, V: Fits<T>> Sync for Inner<T, W, V> {}
 
-/// What the tasks of a cell share, as one task uses it that has a page in the book. Each call is one step. Here a task
-/// that meets nobody fills its cell:
+/// What the tasks of a cell share, as one task uses it that has a page in the book. Each call of [`Parts`] but `refuse`
+/// is one step. Here a task that meets nobody fills its cell:
 ///
 /// ```
 /// task.begin();
@@ -319,7 +321,7 @@ impl<T, W: TaskWaker + Drop, R: Wait + AllocGlobal, V: Fits<T>> Parts<W>
     fn fast(&mut self, ready: bool) -> bool {
         let inner = self.inner;
         let hand = &mut self.hand;
-        let to = freed(ready);
+        let to = if ready { READY_BIT } else { NEW };
         let found = inner.word.compare_exchange::<Act, Act>(
             QINIT_BIT,
             to,
@@ -401,12 +403,6 @@ impl<T, W: TaskWaker + Drop, R: Wait + AllocGlobal, V: Fits<T>> Parts<W>
     fn put(&mut self, value: T) {
         self.put_value(value);
     }
-}
-
-fn freed(ready: bool) -> u64
-    ensures { result ≡ (if ready then 2 ^ 63 else 0) }
-{
-    if ready { READY_BIT } else { NEW }
 }
 
 impl<T, W: TaskWaker, V: Fits<T>> Inner<T, W, V> {

@@ -288,12 +288,7 @@ impl<'a, 'r, T, W: TaskWaker + Drop, R, V: Fits<T>> Task<'a, 'r, T, W, R, V> {
         ensures log { (seen : List Entry) × Grew (Made result.number ∷ []) seen result.log }
     {
         Task {
-            parts: Shared {
-                inner,
-                rt,
-                hand: Hand::new(&inner.front),
-                idle: Idle::New,
-            },
+            parts: inner.task(rt),
         }
     }
 
