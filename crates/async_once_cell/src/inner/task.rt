@@ -405,7 +405,7 @@ impl<'a, 'r, T, W: TaskWaker + Drop, R: Wait + AllocGlobal, V: Fits<T>> Task<'a,
         let idle = self.parts.idle;
         self.parts.begin();
         if !S::copies_under_lock() {
-            return self.parts.by_machine(idle, side);
+            return self.parts.by_steps(idle, side);
         }
         if let Idle::New = idle {
             return self.parts.at_start(side);

@@ -5,7 +5,7 @@
 //! others.
 //!
 //! [`Step::advance`](once_machine::step::Step::advance) stays the one machine, but at `Put`: that step is `put_from`,
-//! since the side is to be shown the value. A way may leave to it at any place, by `steps_left`, and each of its steps
+//! since the side is to be shown the value. A way may leave to it at any place, by `finish`, and each of its steps
 //! is the line of the table for its place. A side whose waker is not copied under the lock polls by the machine alone.
 //! While the lock is held, nothing of the caller's own is dropped or called: such a function answers how far it came,
 //! as [`Reached`], and puts the wakers that it took aside, as [`Spent`]. With the lock free, `go_on_from` drops the
@@ -103,16 +103,12 @@ impl<T, W: TaskWaker + Drop, R: Wait + AllocGlobal, V: Fits<T>> Shared<'_, '_, T
             Idle::Unlisted => self.at_wait_load(None, side),
             Idle::Quick => self.at_run(None, side),
             Idle::Queued => self.at_run(Some(()), side),
-            _ => self.by_machine(idle, side),
+            _ => self.by_steps(idle, side),
         }
     }
 
     #[inline(never)]
-    pub(super) fn by_machine<S: TaskSide<W, Value = T>>(
-        &mut self,
-        idle: Idle,
-        side: &mut S,
-    ) -> Ending
+    pub(super) fn by_steps<S: TaskSide<W, Value = T>>(&mut self, idle: Idle, side: &mut S) -> Ending
         requires live { is_over idle ≡ false }
         requires stands { IsBegun W.whose S.state idle self.old side.old }
         requires fits { GivesFit S.hands S.has_slot V.fits side.old (cell_of self.old) }
@@ -120,15 +116,11 @@ impl<T, W: TaskWaker + Drop, R: Wait + AllocGlobal, V: Fits<T>> Shared<'_, '_, T
     {
         let mut step = idle.step();
         step.begin();
-        self.steps_left(step, side)
+        self.finish(step, side)
     }
 
     // Makes the steps that are left of a poll, and keeps where the next call begins.
-    fn steps_left<S: TaskSide<W, Value = T>>(
-        &mut self,
-        mut step: Step<W, ()>,
-        side: &mut S,
-    ) -> Ending
+    fn finish<S: TaskSide<W, Value = T>>(&mut self, mut step: Step<W, ()>, side: &mut S) -> Ending
         requires stands { Stands W.whose false (S.state side.old) (own self.old) Progress.More step }
         requires fits { GivesFit S.hands S.has_slot V.fits side.old (cell_of self.old) }
         ensures { Polls W.whose S.state S.stays self.old side.old result self.new.idle self.new side.new }
@@ -166,7 +158,7 @@ impl<T, W: TaskWaker + Drop, R: Wait + AllocGlobal, V: Fits<T>> Shared<'_, '_, T
     }
 
     /// Makes one step of the call that is under way. It may wait as [`Task::poll`](crate::inner::Task::poll). `told` is
-    /// what the last step told. To be called while [`Step::left`](once_machine::step::Step::left) is not 0.
+    /// what the last step told.
     pub fn one_step<S: TaskSide<W, Value = T>>(
         &mut self,
         step: &mut Step<W, ()>,
@@ -224,9 +216,9 @@ impl<T, W: TaskWaker + Drop, R: Wait + AllocGlobal, V: Fits<T>> Shared<'_, '_, T
             Reached::Refused(ticket) => {
                 side.close();
                 let place = Place::leaving((), ticket, Ending::Memory);
-                self.steps_left(Step::UnderWay(place), side)
+                self.finish(Step::UnderWay(place), side)
             }
-            Reached::NoQueue => self.steps_left(Step::UnderWay(Place::DoorPut), side),
+            Reached::NoQueue => self.finish(Step::UnderWay(Place::DoorPut), side),
         }
     }
 

@@ -41,10 +41,10 @@ returns-in-Refused-clause-leads g c = λ x v so_far.
     let at = subst (λ r. LeadsBy g.W.TaskWaker.whose x v (next_by r) (g.S.TaskSide.state c.args.side.now) (own c.args.self.now)) c.in-Refused.is so_far in
     let free = subst (λ y. Leads g.W.TaskWaker.whose x v More (UnderWay (leave_place tt c.in-Refused.ticket EndMemory)) y (own c.args.self.now))
     (sym (g.met.S.TaskSide.tells.close _ _ c.close-in-Refused.ensures.did)) at in
-    onward g.W.TaskWaker.whose free c.steps_left.ensures.leads
+    onward g.W.TaskWaker.whose free c.finish.ensures.leads
 
-pub steps_left-requires-in-NoQueue : goal.steps_left-requires-in-NoQueue
-steps_left-requires-in-NoQueue g c = record {
+pub finish-requires-in-NoQueue : goal.finish-requires-in-NoQueue
+finish-requires-in-NoQueue g c = record {
   stands = subst (λ r. StandsBy g.W.TaskWaker.whose (next_by r) (g.S.TaskSide.state c.args.side.now) (own c.args.self.now)) c.in-NoQueue.is c.requires.stands;
   fits = c.requires.fits;
 }
@@ -52,7 +52,7 @@ steps_left-requires-in-NoQueue g c = record {
 pub returns-in-NoQueue-clause-leads : goal.returns-in-NoQueue-clause-leads
 returns-in-NoQueue-clause-leads g c = λ x v so_far.
     let at = subst (λ r. LeadsBy g.W.TaskWaker.whose x v (next_by r) (g.S.TaskSide.state c.args.side.now) (own c.args.self.now)) c.in-NoQueue.is so_far in
-    onward g.W.TaskWaker.whose at c.steps_left-in-NoQueue.ensures.leads
+    onward g.W.TaskWaker.whose at c.finish-in-NoQueue.ensures.leads
 
-pub steps_left-requires-clause-fits : goal.steps_left-requires-clause-fits
-steps_left-requires-clause-fits g c = fits_on g.V.Fits.fits g.met.S.TaskSide.hands_on g.met.S.TaskSide.slot_on {c = cell_of c.args.self.now} c.requires.fits c.close-in-Refused.ensures.stays refl
+pub finish-requires-clause-fits : goal.finish-requires-clause-fits
+finish-requires-clause-fits g c = fits_on g.V.Fits.fits g.met.S.TaskSide.hands_on g.met.S.TaskSide.slot_on {c = cell_of c.args.self.now} c.requires.fits c.close-in-Refused.ensures.stays refl

@@ -17,8 +17,8 @@ begin-requires g c =
     let live = ap (λ (t : TaskView). t.finished) c.self.view_is ∙ c.requires.live in
     record { can = rests_there g.W.TaskWaker.whose (step_of c.self.inside.parts.idle) (own c.self.inside.parts).task.step (rests _ c.self.inside.parts.idle live) (c.self.inside.stands live) }
 
-pub by_machine-requires : goal.by_machine-requires
-by_machine-requires g c =
+pub by_steps-requires : goal.by_steps-requires
+by_steps-requires g c =
     let live = ap (λ (t : TaskView). t.finished) c.self.view_is ∙ c.requires.live in
     let number = c.requires.number ∙ sym (ap (λ (t : TaskView). t.number) c.self.view_is) in
     record {
@@ -50,7 +50,7 @@ later-requires g c =
 
 pub returns-then-not-copies_under_lock-clause-polled : goal.returns-then-not-copies_under_lock-clause-polled
 returns-then-not-copies_under_lock-clause-polled g c = rw (← c.self.view_is)
-    (polled _ _ _ c.by_machine.new.self.idle (c.requires.nobody_woken, c.requires.init) c.begin.ensures.did c.by_machine.ensures.leads.walked c.by_machine.ensures.leads.stands)
+    (polled _ _ _ c.by_steps.new.self.idle (c.requires.nobody_woken, c.requires.init) c.begin.ensures.did c.by_steps.ensures.leads.walked c.by_steps.ensures.leads.stands)
 
 pub returns-in-New-clause-polled : goal.returns-in-New-clause-polled
 returns-in-New-clause-polled g c = rw (← c.self.view_is)

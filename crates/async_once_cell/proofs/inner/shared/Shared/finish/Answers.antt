@@ -4,7 +4,7 @@ use Rattle.once_machine.specs.declared.step.Progress.TheVariants.{Ended}
 use Rattle.async_once_cell.specs.Inner.Shares.{own}
 use Rattle.async_once_cell.specs.Walks.{Stands}
 use Rattle.async_once_cell.proofs.Walk.Logs.{walked_none}
-use Rattle.async_once_cell.proofs.inner.shared.Shared.steps_left.Goals as goal
+use Rattle.async_once_cell.proofs.inner.shared.Shared.finish.Goals as goal
 
 pub go_on-ending-requires : goal.go_on-ending-requires
 go_on-ending-requires g c = record { stands = (false, c.requires.stands); fits = c.requires.fits }
