@@ -1,10 +1,9 @@
 //! The way of a waiter, and of its later poll. A new task that met others goes from the door to its listing in one hold
 //! of the lock, or in two if it has to bring the queue.
 ghost use Rattle.std.specs.Prelude.{◌≡◌, false, None, []};
-ghost use Rattle.async_once_cell.specs.Inner.Hands.{own_of};
 ghost use Rattle.async_once_cell.specs.Inner.Shares.{cell_of};
 ghost use Rattle.async_once_cell.specs.Inner.Ways.{IsAt, IsHeld, IsUnder, Polls, Reaches};
-ghost use Rattle.async_once_cell.specs.Inner.Prelude.{GivesFit, StandsOn, listings_of};
+ghost use Rattle.async_once_cell.specs.Inner.Prelude.{GivesFit, listings_of};
 
 use super::super::desk::Desk;
 use super::super::hand::{Hand, TaskWaker};
@@ -12,7 +11,7 @@ use super::super::shared::{Inner, Shared};
 use super::super::task::{Idle, TaskSide};
 use super::{Reached, Spent};
 use once_machine::parts::{Counted, Parts};
-use once_machine::step::{Ending, Place, Rest, Step};
+use once_machine::step::{Ending, Place};
 use once_machine::waiters::{Answer, Lists};
 use once_machine::word::Word;
 use pagebook::{Fits, Key};
@@ -226,7 +225,9 @@ impl<T, W: TaskWaker + Drop, V: Fits<T>> Inner<T, W, V> {
             // Only a claim takes a waker out. So there is none to put aside here, and below.
             Answer::Listed => {
                 drop(taken);
-                renew(desk, hand, ticket, side);
+                if let Some(own) = ticket {
+                    let _is_renewed = desk.renew(hand, own, side);
+                }
                 Reached::Waits(ticket)
             }
             held => {
@@ -281,24 +282,4 @@ impl<T, W: TaskWaker + Drop, V: Fits<T>> Inner<T, W, V> {
             }
         }
     }
-}
-
-fn renew<T, W: TaskWaker + Drop, S: TaskSide<W, Value = T>>(
-    desk: &mut Desk<W>,
-    hand: &mut Hand,
-    ticket: Option<u64>,
-    side: &mut S,
-)
-    requires desk { desk.old ≡ hand.old.seen.book }
-    requires rests { StandsOn W.whose (own_of hand.old) (Step.Resting (Rest.Wait tt ticket)) }
-    ensures book { hand.new.seen.book ≡ hand.old.seen.book }
-    ensures desk { desk.new ≡ desk.old }
-    ensures hand { own_of hand.new ≡ own_of hand.old }
-    ensures state { S.state side.new ≡ S.state side.old }
-    ensures stays { S.stays side.old side.new }
-{
-    let Some(ticket) = ticket else {
-        return;
-    };
-    let _is_renewed = desk.renew(hand, ticket, side);
 }
