@@ -1,5 +1,5 @@
 //! The calls by which a thread waits for a value, and where it sleeps meanwhile.
-ghost use Rattle.std.specs.Prelude.{◌≡◌, IfOk, None, false, true};
+ghost use Rattle.std.specs.Prelude.{◌≡◌, IfOk, false, true};
 ghost use Rattle.async_once_cell.specs.Prelude.{IfValue, IsValueAtOnce, Waits, TellsOwn, IsPrefix, IsSetIn, about_of};
 ghost use Rattle.async_once_cell.specs.Prelude.{is_shared};
 
@@ -38,7 +38,7 @@ where
     }
 
     /// As [`wait`](Self::wait), and the token learns the value. A token that knows one gets it at once.
-    pub fn wait_as(mut self, token: &mut Known<'a, T, V>) -> io::Result<Result<&'a T, X>>
+    pub fn wait_as(self, token: &mut Known<'a, T, V>) -> io::Result<Result<&'a T, X>>
     where
         R: RandomSource,
         requires unfinished { self.finished ≡ false }
@@ -54,7 +54,7 @@ where
             return Ok(Ok(value));
         }
         let mut parker = Parker::new(self.rt())?;
-        self.wait_begun(token, &mut parker)
+        self.wait_as_on(token, &mut parker)
     }
 
     /// As [`wait`](Self::wait), by a parker that the caller keeps. `io::Error` says that there was no memory to wait.
@@ -85,25 +85,8 @@ where
         if let Some(value) = self.cell.get_as(token) {
             return Ok(Ok(value));
         }
-        self.wait_begun(token, parker)
-    }
-
-    // Begins to wait, and polls until the future answers, with a token that knows nothing. The thread sleeps until its
-    // task is to be polled. There always is one: a wait adds it, and one wait at a time uses the parker.
-    fn wait_begun(
-        &mut self,
-        token: &mut Known<'a, T, V>,
-        parker: &mut Parker,
-    ) -> io::Result<Result<&'a T, X>>
-        requires unfinished { self.old.finished ≡ false }
-        requires token_of_this_cell { token.old.cell ≡ self.old.cell }
-        requires nothing_known { token.old.value ≡ None }
-        ensures cell { token.new.cell ≡ token.old.cell }
-        ensures value { Waits token.old.value token.new.value result }
-        ensures log { IsPrefix token.old.log token.new.log }
-        ensures own { IfOk result (TellsOwn I.may_fail X.ending self.old.init) }
-        ensures promise { is_shared self.old.cell ≡ true → IfValue result (V.fits (about_of self.old.cell)) }
-    {
+        // The thread sleeps until its task is to be polled. There always is one: a wait adds it, and one wait at a time
+        // uses the parker.
         parker.tasks.add()?.schedule();
         let rt = self.rt();
         for _ in rt.forever() {

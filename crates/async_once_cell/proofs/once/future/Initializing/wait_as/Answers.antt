@@ -1,5 +1,5 @@
 -- A token that finds the value learns it. One that finds nothing knew nothing before, and knows nothing after the look.
--- So what `wait_begun` says holds of the whole call.
+-- So what `wait_as_on` says holds of the whole call.
 use Rattle.std.proofs.Common.{rules}
 use Rattle.async_once_cell.proofs.Looks.{grows_on, waits_on}
 use Rattle.async_once_cell.proofs.once.future.Initializing.wait_as.Goals as goal
@@ -8,7 +8,7 @@ pub returns-in-Some-clause-value : goal.returns-in-Some-clause-value
 returns-in-Some-clause-value g c = search rules
 
 pub returns-clause-value : goal.returns-clause-value
-returns-clause-value g c = waits_on _ _ c.in_default.ensures.value c.wait_begun.ensures.value
+returns-clause-value g c = waits_on _ _ c.in_default.ensures.value c.wait_as_on.ensures.value
 
 pub returns-clause-log : goal.returns-clause-log
-returns-clause-log g c = grows_on _ _ _ _ _ _ c.get_as.ensures.look c.wait_begun.ensures.log
+returns-clause-log g c = grows_on _ _ _ _ _ _ c.get_as.ensures.look c.wait_as_on.ensures.log

@@ -1,14 +1,39 @@
--- A token that finds the value learns it. One that finds nothing knew nothing before, and knows nothing after the look.
--- So what `wait_begun` says holds of the whole call.
-use Rattle.std.proofs.Common.{rules}
-use Rattle.async_once_cell.proofs.Looks.{grows_on, waits_on}
+-- A token that finds the value learns it. One that finds nothing knew nothing before, and learns from the last poll.
+-- After a poll that is Pending the future is unfinished still, and the token knows nothing.
+use Rattle.std.proofs.Common.{rules, Option, sym, ◌∙◌, subst}
+use Rattle.async_once_cell.proofs.Desks.{prefix_on}
+use Rattle.futures.specs.Poll.{IfReady}
+use Rattle.async_once_cell.specs.Inits.{TellsOwn}
+use Rattle.async_once_cell.specs.Polls.{DidPoll, Polls, PollsAs, ending_by}
+use Rattle.async_once_cell.proofs.Inits.{tells_on}
 use Rattle.async_once_cell.proofs.once.future.Initializing.wait_as_on.Goals as goal
 
 pub returns-in-Some-clause-value : goal.returns-in-Some-clause-value
 returns-in-Some-clause-value g c = search rules
 
-pub returns-clause-value : goal.returns-clause-value
-returns-clause-value g c = waits_on _ _ c.in_default.ensures.value c.wait_begun.ensures.value
+pub returns-in-Ready-clause-value : goal.returns-in-Ready-clause-value
+returns-in-Ready-clause-value g c = search rules
 
-pub returns-clause-log : goal.returns-clause-log
-returns-clause-log g c = grows_on _ _ _ _ _ _ c.get_as.ensures.look c.wait_begun.ensures.log
+pub loop-preserved : goal.loop-preserved
+loop-preserved g c =
+    let asked = c.poll_as-polled.ensures in
+    let new = c.poll_as-polled.new in
+    let call = subst (λ (k : Option g.row.T.Denot).
+    PollsAs k c.loop.self new.self c.in-Some-next.cx new.cx (ending_by g.X.Failure.ending c.poll_as-polled.result)) c.loop.invariant.3 asked.call in
+    let did = subst (λ r. DidPoll c.loop.self new.self c.in-Some-next.cx new.cx (ending_by g.X.Failure.ending r)) c.in_default-polled.is call in
+    let told = subst (λ r. Polls c.loop.token.value new.token.value r) c.in_default-polled.is asked.value in (
+      did.finished,
+      asked.cell ∙ c.loop.invariant.1 ∙ sym did.cell,
+      asked.cell ∙ c.loop.invariant.2,
+      told.1,
+      prefix_on c.args.token.now.log c.loop.token.log _ c.loop.invariant.4 asked.log,
+      λ x m. c.loop.invariant.5 x (asked.same c.in_default-polled.is x m),
+    )
+
+pub returns-in-Ready-clause-log : goal.returns-in-Ready-clause-log
+returns-in-Ready-clause-log g c = prefix_on c.args.token.now.log c.loop.token.log _ c.loop.invariant.4 c.poll_as-polled.ensures.log
+
+pub returns-in-Ready-clause-own : goal.returns-in-Ready-clause-own
+returns-in-Ready-clause-own g c =
+    let own = subst (λ r. IfReady r (TellsOwn g.I.Init.may_fail g.X.Failure.ending c.loop.self.init)) c.in-Ready.is c.poll_as-polled.ensures.own in
+    tells_on g.I.Init.may_fail g.X.Failure.ending c.args.self.init c.loop.self.init c.loop.invariant.5 c.in-Ready.answer own
