@@ -209,7 +209,10 @@ impl<T> Seen<T> {
         match (self, other) {
             (Seen::Owned(knows), Seen::Owned(others)) => *knows |= *others,
             (Seen::Shared(own, known), Seen::Shared(record, found)) => {
-                take_over(own, record);
+                let before = own.again();
+                own.learn(record);
+                stays_set(&before, own);
+                stays_set(record, own);
                 if let Some(found) = found {
                     match known {
                         Some(known) => known.agrees(found),
@@ -220,21 +223,6 @@ impl<T> Seen<T> {
             _ => unreachable!(),
         }
     }
-}
-
-// Adds to a record what another of its cell has. If the cell is set in one of the two, it is set in the outcome.
-fn take_over(own: &mut Record, seen: &Record)
-    requires book { seen.now.book ≡ own.old.book }
-    ensures book { own.new.book ≡ own.old.book }
-    ensures log { IsPrefix own.old.log own.new.log }
-    ensures other { IsPrefix seen.now.log own.new.log }
-    ensures own_set { IsSet own.old.log → IsSet own.new.log }
-    ensures other_set { IsSet seen.now.log → IsSet own.new.log }
-{
-    let before = own.again();
-    own.learn(seen);
-    stays_set(&before, own);
-    stays_set(seen, own);
 }
 
 /// `Known(Some(V))` if the token knows the value, and `Known(None)` if it knows nothing.
