@@ -79,16 +79,7 @@ impl<'a, T, I: Drop, R: Wait + AllocGlobal, V: Fits<T>> Attempt<'a, T, I, R, V> 
         Some(shown.0.again())
     }
 
-    /// Drops the init, and then the task leaves: for a future that is dropped.
-    pub(crate) fn discard(self)
-        requires live { self.finished ≡ false }
-    {
-        let Attempt { task, init, .. } = self;
-        drop(init);
-        leave_unfinished(task);
-    }
-
-    /// The same for a future that lives on.
+    /// Drops the init, and then the task leaves.
     pub(crate) fn leave(&mut self)
         requires live { self.old.finished ≡ false }
         ensures cell { self.new.cell ≡ self.old.cell }
@@ -112,21 +103,6 @@ impl<'a, T, I: Drop, R: Wait + AllocGlobal, V: Fits<T>> Attempt<'a, T, I, R, V> 
         self.task.leave(&mut side);
         stays_set(&before, &self.task.record());
     }
-}
-
-// A task that is not finished, and whose init is gone, leaves.
-fn leave_unfinished<T, R: Wait + AllocGlobal, V: Fits<T>>(
-    mut task: Task<'_, '_, T, ListedWaker, R, V>,
-)
-    requires live { task.finished ≡ false }
-{
-    let mut side = LeaveSide {
-        rt: task.rt(),
-        mark: task.mark(),
-        woke: Snapshot::of(&Out::One(None)),
-        value: PhantomData,
-    };
-    task.leave(&mut side);
 }
 
 impl<'a, T: Drop, I: Drop, R: Wait + AllocGlobal, V: Fits<T>> Attempt<'a, T, I, R, V> {
@@ -396,7 +372,8 @@ impl<T, R: Wait> Side<ListedWaker> for LeaveSide<'_, T, R> {
 
     ghost stays = { λ _ _. ⊤ };
 
-    // Nobody calls this, `put`, `renew` or `keep`, because a task that leaves has no init. It would never return.
+    // Nobody calls this, `put`, `renew` or `keep`, because a task that leaves has no init. It would never return. No
+    // contract forbids the call, because the kit's verdict refuses a contract that no call can meet.
     fn run(&mut self, _right: &mut Hand) -> Polled {
         for _ in self.rt.forever() {}
         unreachable!()
