@@ -19,7 +19,7 @@ pub use future::{InitFuture, Initializing, TryInitFuture};
 use futures::Future;
 use known::Seen;
 pub use known::{Known, Told};
-use pagebook::{Anything, Fits, Written};
+use pagebook::{Anything, Fits};
 use std::alloc::AllocGlobal;
 use std::marker::Model;
 use std::sync::Wait;
@@ -153,8 +153,7 @@ impl<T, V: Fits<T>> OnceCell<T, V> {
         ensures gives { Gives self result }
         ensures promise { is_shared self ≡ true → IfSome result (V.fits (about_of self)) }
     {
-        let OnceCell { contents } = self;
-        match contents {
+        match self.contents {
             Contents::Owned(value) => Some(value),
             Contents::Shared(inner) => inner.into_inner(),
         }
@@ -165,8 +164,7 @@ impl<T, V: Fits<T>> OnceCell<T, V> {
         requires { told.now.cell ≡ self }
         ensures { result ≡ told.now.value }
     {
-        let OnceCell { contents } = self;
-        match contents {
+        match self.contents {
             Contents::Owned(value) => value,
             Contents::Shared(inner) => inner.into_value(told.written.as_ref().unwrap()),
         }
@@ -372,17 +370,6 @@ pub(crate) enum Contents<T, V: Fits<T> = Anything> {
 impl<T, V: Fits<T>> Contents<T, V> {
     ghost use Rattle.async_once_cell.specs.contracts.once.Contents.{the_row};
 
-    // Makes the value that tasks put the owner's own. `written` shows which value that is.
-    fn into_owned(self, written: &Written<T>) -> Self
-        requires { IsWritten (view_of self) written.now }
-        ensures { view_of result ≡ Owned written.now.value }
-    {
-        match self {
-            Contents::Owned(value) => Contents::Owned(value),
-            Contents::Shared(inner) => Contents::Owned(inner.into_value(written)),
-        }
-    }
-
     // Gives the owner a value that tasks put.
     fn settle(&mut self)
         ensures { Settled self.old self.new }
@@ -398,7 +385,13 @@ impl<T, V: Fits<T>> Contents<T, V> {
                 |value, written|
                     requires { IsWritten (view_of value) written }
                     ensures { view_of result.0 ≡ Owned written.value }
-                { (value.into_owned(&written), ()) },
+                {
+                    let owned = match value {
+                        Contents::Owned(value) => value,
+                        Contents::Shared(inner) => inner.into_value(&written),
+                    };
+                    (Contents::Owned(owned), ())
+                },
             );
         }
     }
