@@ -6,9 +6,9 @@ ghost use Rattle.async_once_cell.specs.Prelude.{Owned, about_of, is_shared, Cell
 mod future;
 
 use crate::inner::Pollable;
-use crate::once::{Known, OnceCell, Told};
+use crate::once::{Initializing, Known, OnceCell, Told};
 use boxcar::tag::Tag;
-use future::Promised;
+use future::{Driven, Promised};
 pub use future::{LazyFuturePin, LazyFutureUnpin};
 use futures::Future;
 use pagebook::{Anything, Fits};
@@ -102,7 +102,13 @@ impl<T, F: Future<Output = T>, V: Fits<T>> Lazy<T, F, V> {
         ensures live { result.finished ≡ false }
         ensures made { IsMade result }
     {
-        LazyFuturePin::new(&self.cell, rt, &self.future)
+        let driven = Driven {
+            rt,
+            future: &self.future,
+        };
+        LazyFuturePin {
+            inner: Initializing::new(&self.cell, rt, driven),
+        }
     }
 
     /// As [`Lazy::get`].

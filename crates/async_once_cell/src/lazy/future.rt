@@ -1,6 +1,6 @@
 //! The future of a cell that owns its init.
 ghost use Rattle.std.specs.Prelude.{◌≡◌, ◌≢◌, ⊤, ℕ, IfSome, IsSome, List, None, Option, Result, false, true, reverse};
-ghost use Rattle.async_once_cell.specs.Prelude.{Answers, DidPoll, HasLeft, IfValue, IsMade, IsValue, IsValueAtOnce};
+ghost use Rattle.async_once_cell.specs.Prelude.{Answers, DidPoll, HasLeft, IfValue, IsValue, IsValueAtOnce};
 ghost use Rattle.async_once_cell.specs.Prelude.{Polls, PollsAs, SpansIn, Waits, ending_by, ending_of_refusal, value_of};
 ghost use Rattle.async_once_cell.specs.Prelude.{IsSet, PollsOnce, WasFilled, option_or, Bor, IfReady, OnPending};
 ghost use Rattle.async_once_cell.specs.Prelude.{Covers, Keeps, IsPrefix, Agrees, IsSetIn, about_of, is_shared, MayGive};
@@ -9,7 +9,7 @@ ghost use Rattle.async_once_cell.specs.Prelude.{NobodyForgotten};
 
 use crate::error::Refused;
 use crate::inner::{Failed, Hand, Init, Pollable, Yields};
-use crate::once::{Initializing, Known, OnceCell, Parker};
+use crate::once::{Initializing, Known, Parker};
 use futures::Future;
 use futures::task::{Context, Poll};
 use pagebook::{Anything, Fits};
@@ -31,7 +31,7 @@ pub struct LazyFuturePin<'a, T, F: Future, R: Wait + AllocGlobal, V = Anything>
 where
     V: Fits<T> + Fits<F::Output>,
 {
-    inner: Initializing<'a, T, Refused, Driven<'a, F, R, V>, R, V>,
+    pub(super) inner: Initializing<'a, T, Refused, Driven<'a, F, R, V>, R, V>,
 }
 
 /// Future of [`Lazy::get_unpin`](crate::Lazy::get_unpin) and of [`Lazy::into_future`](crate::Lazy::into_future). It is
@@ -52,20 +52,6 @@ impl<'a, T, F: Future, R, V: Fits<T> + Fits<F::Output>> LazyFuturePin<'a, T, F, 
 where
     R: Wait + AllocGlobal,
 {
-    pub(super) fn new(
-        cell: &'a OnceCell<T, V>,
-        rt: &'a R,
-        future: &'a Mutex<Promised<F, V>>,
-    ) -> Self
-        ensures cell { result.cell ≡ cell.now }
-        ensures live { result.finished ≡ false }
-        ensures made { IsMade result }
-    {
-        LazyFuturePin {
-            inner: Initializing::new(cell, rt, Driven { rt, future }),
-        }
-    }
-
     /// As [`Initializing::is_finished`].
     pub fn is_finished(&self) -> bool
         ensures { result ≡ self.now.finished }
@@ -282,8 +268,8 @@ impl<F: Future, V: Fits<F::Output>> Model for Promised<F, V> {
 // The future of a cell, as the task that holds the right drives it on. To drop this leaves it as it is.
 #[derive(Drop)]
 pub(crate) struct Driven<'a, F: Future, R, V: Fits<F::Output>> {
-    rt: &'a R,
-    future: &'a Mutex<Promised<F, V>>,
+    pub(super) rt: &'a R,
+    pub(super) future: &'a Mutex<Promised<F, V>>,
 }
 
 impl<F: Future, R: Wait, V: Fits<F::Output>> Driven<'_, F, R, V> {
