@@ -1,9 +1,9 @@
 //! The future of a cell that owns its init.
 ghost use Rattle.std.specs.Prelude.{◌≡◌, ◌≢◌, ⊤, ℕ, IfSome, IsSome, List, None, Option, Result, false, true, reverse};
-ghost use Rattle.async_once_cell.specs.Prelude.{Answers, DidPoll, HasLeft, IfValue, IsValue, IsValueAtOnce};
-ghost use Rattle.async_once_cell.specs.Prelude.{Polls, PollsAs, SpansIn, Waits, ending_by, ending_of_refusal, value_of};
-ghost use Rattle.async_once_cell.specs.Prelude.{IsSet, PollsOnce, WasFilled, option_or, Bor, IfReady, OnPending};
-ghost use Rattle.async_once_cell.specs.Prelude.{Covers, Keeps, IsPrefix, Agrees, IsSetIn, about_of, is_shared, MayGive};
+ghost use Rattle.async_once_cell.specs.Prelude.{Answers, DidPoll, HasLeft, IfValue, IsValue, IsValueAtOnce, Polls};
+ghost use Rattle.async_once_cell.specs.Prelude.{PollsAs, SpansIn, Waits, ending_by, ending_of_refusal, value_of, IsSet};
+ghost use Rattle.async_once_cell.specs.Prelude.{PollsOnce, WasFilled, option_or, Bor, IfReady, OnPending, Covers};
+ghost use Rattle.async_once_cell.specs.Prelude.{Keeps, IsPrefix, Agrees, IsSetIn, about_of, is_shared, MayGive};
 ghost use Rattle.async_once_cell.specs.Prelude.{entries_of, most, end_of, SomebodyCalled, Once, AtEvery, IsRun};
 ghost use Rattle.async_once_cell.specs.Prelude.{NobodyForgotten};
 
