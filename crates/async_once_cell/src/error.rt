@@ -20,9 +20,7 @@ pub trait Failure: Drop {
 impl Failure for Refused {
     ghost ending = { ending_of_refusal };
 
-    fn refused(refused: Refused) -> Self
-        ensures { ending_of_refusal result ≡ ending_of_refusal refused }
-    {
+    fn refused(refused: Refused) -> Self {
         refused
     }
 }
@@ -30,9 +28,7 @@ impl Failure for Refused {
 impl<E: Drop> Failure for InitError<E> {
     ghost ending = { ending_of_error };
 
-    fn refused(refused: Refused) -> Self
-        ensures { ending_of_error result ≡ ending_of_refusal refused }
-    {
+    fn refused(refused: Refused) -> Self {
         InitError::from(refused)
     }
 }

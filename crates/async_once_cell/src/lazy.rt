@@ -192,10 +192,9 @@ impl<T, F: Future<Output = T>, V: Fits<T>> Lazy<T, F, V> {
         ensures gives { Gives self (result_ok result) }
         ensures promise { is_shared self ≡ true → IfOk result (V.fits (about_of self)) }
     {
-        let Lazy { cell, future } = self;
-        match cell.into_inner() {
+        match self.cell.into_inner() {
             Some(value) => Ok(value),
-            None => Err(future.into_inner().0.map(Pollable::into_inner)),
+            None => Err(self.future.into_inner().0.map(Pollable::into_inner)),
         }
     }
 
@@ -222,9 +221,7 @@ impl<T, F: Future<Output = T>, V: Fits<T>> Lazy<T, F, V> {
         requires { told.now.cell ≡ self }
         ensures { result ≡ told.now.value }
     {
-        let Lazy { cell, future } = self;
-        drop(future);
-        cell.into_inner_as(told)
+        self.cell.into_inner_as(told)
     }
 
     /// As [`Lazy::replace_and_take`], for a caller that was told the value.

@@ -307,11 +307,7 @@ impl<T: Drop, V: Fits<T>> OnceCell<T, V> {
         requires { told.now.cell ≡ self.old }
         ensures { self.new ≡ Owned told.now.value }
     {
-        let value = self.take_as(told);
-        let owned = OnceCell {
-            contents: Contents::Owned(value),
-        };
-        drop(mem::replace(self, owned));
+        self.contents = Contents::Owned(self.take_as(told));
     }
 }
 

@@ -153,7 +153,7 @@ impl<T, W: TaskWaker + Drop, V: Fits<T>> Inner<T, W, V> {
     pub fn into_inner(self) -> Option<T>
         ensures promise { IfSome result (V.fits self.slot.about) }
     {
-        self.into_slot().into_inner()
+        self.slot.into_inner()
     }
 
     /// The value, for a caller that has what shows it. The record ends.
@@ -162,14 +162,7 @@ impl<T, W: TaskWaker + Drop, V: Fits<T>> Inner<T, W, V> {
         ensures value { result ≡ written.now.value }
         ensures promise { V.fits self.slot.about result }
     {
-        self.into_slot().into_value(written)
-    }
-
-    fn into_slot(self) -> CellSlot<T, V>
-        ensures { result ≡ self.slot }
-    {
-        let Inner { slot, .. } = self;
-        slot
+        self.slot.into_value(written)
     }
 
     /// Whether a queue stands at the door, for Debug. It waits for nobody: `None` says that the lock was not free. No

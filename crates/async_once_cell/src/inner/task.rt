@@ -167,8 +167,7 @@ impl<F: Future> Pollable<F> {
     pub fn into_inner(self) -> F
         ensures { result ≡ self }
     {
-        let Pollable { future } = self;
-        future
+        self.future
     }
 }
 
