@@ -79,6 +79,13 @@ impl<'a, T, I: Drop, R: Wait + AllocGlobal, V: Fits<T>> Attempt<'a, T, I, R, V> 
         Some(shown.0.again())
     }
 
+    /// As [`leave`](Self::leave), by value: so the drop of a future that is finished moves nothing.
+    pub(crate) fn discard(mut self)
+        requires live { self.finished ≡ false }
+    {
+        self.leave();
+    }
+
     /// Drops the init, and then the task leaves.
     pub(crate) fn leave(&mut self)
         requires live { self.old.finished ≡ false }

@@ -20,10 +20,10 @@ use Rattle.async_once_cell.specs.declared.inner.ways.Reached.TheVariants.{Refuse
 use Rattle.async_once_cell.specs.declared.inner.hand.Hand.{Hand}
 use Rattle.async_once_cell.specs.declared.inner.shared.Shared.{Shared}
 use Rattle.async_once_cell.specs.declared.inner.task.Idle.{Idle}
-use Rattle.async_once_cell.specs.Inner.Hands.{own_of}
+pub use Rattle.async_once_cell.specs.Inner.Hands.{own_of}
 use Rattle.async_once_cell.specs.Inner.Idle.{step_of}
 use Rattle.async_once_cell.specs.Inner.Own.{Own}
-use Rattle.async_once_cell.specs.Inner.Shares.{cell_of, own}
+pub use Rattle.async_once_cell.specs.Inner.Shares.{cell_of, own}
 use Rattle.async_once_cell.specs.Inner.Sides.{Sided}
 use Rattle.async_once_cell.specs.Walks.{Stands, Walked}
 

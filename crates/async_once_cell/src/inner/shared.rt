@@ -262,9 +262,8 @@ impl<'a, 'r, T, W: TaskWaker, R, V: Fits<T>> Shared<'a, 'r, T, W, R, V> {
         ensures did { Went (own self.old) PutValue [] (own self.new) }
         ensures written { (result.of ≡ (cell_of self.old).id) × (result.value ≡ value) }
     {
-        let inner = self.inner;
         let hand = &mut self.hand;
-        inner
+        self.inner
             .slot
             .put::<(), Writes, Puts>(value, &(), &mut hand.seen, &mut hand.pens)
     }
@@ -299,9 +298,8 @@ impl<T, W: TaskWaker + Drop, R: Wait + AllocGlobal, V: Fits<T>> Parts<W>
     }
 
     fn quick(&mut self) -> bool {
-        let inner = self.inner;
         let hand = &mut self.hand;
-        let found = inner.word.compare_exchange::<Act, Act>(
+        let found = self.inner.word.compare_exchange::<Act, Act>(
             NEW,
             QINIT_BIT,
             &Act::ByTable,
@@ -312,10 +310,9 @@ impl<T, W: TaskWaker + Drop, R: Wait + AllocGlobal, V: Fits<T>> Parts<W>
     }
 
     fn fast(&mut self, ready: bool) -> bool {
-        let inner = self.inner;
         let hand = &mut self.hand;
         let to = if ready { READY_BIT } else { NEW };
-        let found = inner.word.compare_exchange::<Act, Act>(
+        let found = self.inner.word.compare_exchange::<Act, Act>(
             QINIT_BIT,
             to,
             &Act::ByTable,
@@ -330,9 +327,8 @@ impl<T, W: TaskWaker + Drop, R: Wait + AllocGlobal, V: Fits<T>> Parts<W>
     }
 
     fn add_one(&mut self) {
-        let inner = self.inner;
         let hand = &mut self.hand;
-        inner
+        self.inner
             .word
             .fetch_add::<Act, Act>(1, &Act::ByTable, &mut hand.seen, &mut hand.pens);
     }

@@ -11,9 +11,8 @@
 //! as [`Reached`], and puts the wakers that it took aside, as [`Spent`]. With the lock free, `go_on_from` drops the
 //! init if it is to be closed, and goes on.
 ghost use Rattle.std.specs.Prelude.{◌≡◌, ◌<◌, Bool, false, true};
-ghost use Rattle.async_once_cell.specs.Inner.Shares.{cell_of, own};
 ghost use Rattle.async_once_cell.specs.Inner.Ways.{IsAt, IsBegun, IsUnder, Leads, LeadsBy, Polls, StandsBy, next_by};
-ghost use Rattle.async_once_cell.specs.Inner.Hands.{own_of};
+ghost use Rattle.async_once_cell.specs.Inner.Ways.{cell_of, own, own_of};
 ghost use Rattle.async_once_cell.specs.Inner.Prelude.{in_call, is_value, release_place, is_over, step_of, Own, call_in};
 ghost use Rattle.async_once_cell.specs.Inner.Prelude.{GivesFit, HasPut, Sided, Stands, Walked, MatchOption, Answer, Op};
 ghost use Rattle.async_once_cell.specs.Inner.Prelude.{Put, PutValue, Section, Was, left_of, CanCall, DidCall};

@@ -408,10 +408,10 @@ impl<T, X, I: Yields<T, X>, R: Wait + AllocGlobal, V: Fits<T>> Drop
             state,
         } = self;
         // A finished future is not given to a call that may wait, which would cost it a test.
-        if let FutureState::Shared(mut attempt) = state
+        if let FutureState::Shared(attempt) = state
             && !attempt.task.is_finished()
         {
-            attempt.leave();
+            attempt.discard();
         }
     }
 }

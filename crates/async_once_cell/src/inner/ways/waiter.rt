@@ -1,8 +1,7 @@
 //! The way of a waiter, and of its later poll. A new task that met others goes from the door to its listing in one hold
 //! of the lock, or in two if it has to bring the queue.
 ghost use Rattle.std.specs.Prelude.{◌≡◌, false, None, []};
-ghost use Rattle.async_once_cell.specs.Inner.Shares.{cell_of};
-ghost use Rattle.async_once_cell.specs.Inner.Ways.{IsAt, IsHeld, IsUnder, Polls, Reaches};
+ghost use Rattle.async_once_cell.specs.Inner.Ways.{IsAt, IsHeld, IsUnder, Polls, Reaches, cell_of};
 ghost use Rattle.async_once_cell.specs.Inner.Prelude.{GivesFit, listings_of};
 
 use super::super::desk::Desk;
