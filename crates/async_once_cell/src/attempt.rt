@@ -75,8 +75,7 @@ impl<'a, T, I: Drop, R: Wait + AllocGlobal, V: Fits<T>> Attempt<'a, T, I, R, V> 
         ensures of { IfSome result (λ w. w.of ≡ self.now.cell.id) }
         ensures set { is_some result ≡ true → IsSet self.now.log }
     {
-        let shown = self.shown.as_ref()?;
-        Some(shown.0.again())
+        Some(self.shown.as_ref()?.0.again())
     }
 
     /// As [`leave`](Self::leave), by value: so the drop of a future that is finished moves nothing.

@@ -292,6 +292,16 @@ impl<T, V: Fits<T>> OnceCell<T, V> {
             _ => unreachable!(),
         }
     }
+
+    /// Gives the owner the value that the caller was told. From then on the clauses of all calls say which it is.
+    pub fn own_as(&mut self, told: &Told<T, V>)
+    where
+        T: Drop,
+        requires { told.now.cell ≡ self.old }
+        ensures { self.new ≡ Owned told.now.value }
+    {
+        self.contents = Contents::Owned(self.take_as(told));
+    }
 }
 
 // The numbers about which a cell promises something of its value.
@@ -299,16 +309,6 @@ struct About;
 
 impl<T, V: Fits<T>> Names<OnceCell<T, V>> for About {
     ghost numbers = { about_of };
-}
-
-impl<T: Drop, V: Fits<T>> OnceCell<T, V> {
-    /// Gives the owner the value that the caller was told. From then on the clauses of all calls say which it is.
-    pub fn own_as(&mut self, told: &Told<T, V>)
-        requires { told.now.cell ≡ self.old }
-        ensures { self.new ≡ Owned told.now.value }
-    {
-        self.contents = Contents::Owned(self.take_as(told));
-    }
 }
 
 impl<T> Default for OnceCell<T> {

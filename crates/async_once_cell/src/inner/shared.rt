@@ -250,8 +250,7 @@ impl<'a, 'r, T, W: TaskWaker, R, V: Fits<T>> Shared<'a, 'r, T, W, R, V> {
         ensures value { (result.0.now ≡ result.1.value) × (result.1.of ≡ (cell_of self.now).id) }
         ensures promise { V.fits (cell_of self.now).about result.0.now }
     {
-        let inner = self.inner;
-        inner.slot.get(&self.hand.seen)
+        self.inner.slot.get(&self.hand.seen)
     }
 
     // Puts the value, which nothing can refuse.
