@@ -1,4 +1,5 @@
--- The words of the contracts, from one place.
+-- The words of the contracts, from one place. A module that leads to a struct with ghost fields cannot stand here,
+-- because the file of that struct imports this.
 pub use Rattle.async_once_cell.specs.Inits.{GivesNoOther, InitFits, TellsOwn, MayGive}
 pub use Rattle.async_once_cell.specs.Inner.Sides.{HasCopied, HasWoken, sided_tells}
 pub use Rattle.async_once_cell.specs.Kept.{Grew, entries_of, most}

@@ -1,4 +1,5 @@
--- The words of the contracts, from one place.
+-- The words of the contracts, from one place. A module that leads to a struct with ghost fields cannot stand here,
+-- because the file of that struct imports this.
 pub use Rattle.async_once_cell.specs.Inits.{GivesNoOther, MayGive, polled_in}
 pub use Rattle.async_once_cell.specs.Inner.Acts.{Writes, Puts}
 pub use Rattle.async_once_cell.specs.Inner.Desk.{desk_pages, first_desk, IsDesk, desked, IsDesked, desk_sheets}
