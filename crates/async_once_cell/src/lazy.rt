@@ -168,7 +168,7 @@ impl<T, F: Future<Output = T>, V: Fits<T>> Lazy<T, F, V> {
     }
 
     /// The value, if it was set. Else the future is dropped, and the answer is None, even if one poll
-    /// of the future would give the value. A queue that futures left goes as well. It waits for nobody.
+    /// of the future would give the value. A queue that futures left goes too. Only the drop of the future may wait.
     pub fn into_inner(self) -> Option<T>
         ensures gives { Gives self result }
         ensures promise { is_shared self ≡ true → IfSome result (V.fits (about_of self)) }
@@ -233,7 +233,7 @@ impl<T, F: Future<Output = T>, V: Fits<T>> Lazy<T, F, V> {
         mem::replace(self, replacement).into_inner_as(told)
     }
 
-    /// Gives the owner the value that the caller was told. From then on the clauses of all calls say which it is.
+    /// Gives the owner the value that the caller was told. Then looks, and polls without a token, say which.
     pub fn own_as(&mut self, told: &Told<T, V>)
     where
         T: Drop,

@@ -66,14 +66,14 @@
 //! had to be, so no waiter is forgotten. A clause sees what a future or a token has seen of the record. After a
 //! `poll` the newest entry seen is its answer. A token's look finds a value exactly if the cell is set then.
 //!
-//! Only a task that holds polls an init, and the record has each such poll and no other. In the record each `poll` or
-//! `leave` of a future has one beginning, after all that the future had seen, one end, and what it did between them.
+//! Only a task that holds polls an init, and the record has what that answered. In the record each `poll` or `leave` of
+//! a future has one beginning, after all that the future had seen, one end, and what it did between them.
 //!
 //! This says nothing of a call that does not return, of fairness, progress or time. Tests alone show that a task polls
-//! its own init, or the future of its lazy cell, that a task that is woken runs, and that each value and init is
-//! dropped. Futures and tokens say which value was set, see [`Initializing::tell`] and [`Known`]. The definitions in
-//! `specs/` and the kit have to be trusted. `docs/PROVED.md` of the repository says what no clause says, and
-//! `docs/THREADS.md` what is proved of threads.
+//! its own init, or the future of its lazy cell, that a waker which is handed out wakes its task, and that each value
+//! and init is dropped. Futures and tokens say which value was set, see [`Initializing::tell`] and [`Known`]. The
+//! definitions in `specs/` and the kit have to be trusted. `docs/PROVED.md` of the repository says what no clause says,
+//! and `docs/THREADS.md` what is proved of threads.
 #![tactic(auto)]
 
 mod attempt;

@@ -293,7 +293,7 @@ impl<T, V: Fits<T>> OnceCell<T, V> {
         }
     }
 
-    /// Gives the owner the value that the caller was told. From then on the clauses of all calls say which it is.
+    /// Gives the owner the value that the caller was told. Then looks, `take` and polls without a token say which.
     pub fn own_as(&mut self, told: &Told<T, V>)
     where
         T: Drop,
