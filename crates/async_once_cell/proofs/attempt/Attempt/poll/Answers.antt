@@ -7,7 +7,6 @@ use Rattle.async_once_cell.specs.Kept.{Grew}
 use Rattle.async_once_cell.specs.Walks.{end_of}
 use Rattle.pagebook.specs.Slot.{Placed}
 use Rattle.async_once_cell.specs.Inits.{MayGive}
-use Rattle.async_once_cell.specs.Inits.{MayGive}
 use Rattle.async_once_cell.specs.Polls.{ending_by}
 use Rattle.async_once_cell.proofs.attempt.Attempt.poll.Goals as goal
 

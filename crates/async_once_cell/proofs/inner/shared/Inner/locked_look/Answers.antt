@@ -67,3 +67,9 @@ returns-in-None-clause-leads g c =
     let s = c.look-answer in
     copied g.W.TaskWaker.whose c.args.ticket s.result.0 (Look s.new.ticket) None c.in_default.not-Ready c.in_default.not-Claimed c.in_default.not-Listed
     c.requires.stands s.ensures.did (g.met.S.TaskSide.tells.copy _ _ _ c.in-None.ensures.did) (refl, c.refused.ensures.did) refl
+
+pub locked_list-requires-clause-stands : goal.locked_list-requires-clause-stands
+locked_list-requires-clause-stands g c =
+    let s = c.look-answer in
+    (copied g.W.TaskWaker.whose c.args.ticket s.result.0 (Look s.new.ticket) (Some c.in-Some-copy.waker) c.in_default.not-Ready c.in_default.not-Claimed c.in_default.not-Listed
+    c.requires.stands s.ensures.did (g.met.S.TaskSide.tells.copy _ _ _ c.in-Some-copy.ensures.did) refl refl).stands
