@@ -2,7 +2,9 @@
 
 pub mod expected;
 pub mod made;
-pub mod poll;
+
+pub use machine_tests::doubles::poll;
+
 pub mod schedule;
 pub mod stub;
 pub mod value;

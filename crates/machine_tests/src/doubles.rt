@@ -1,10 +1,8 @@
-//! What tests share. It knows no cell: a machine without memory, a writer that fails, and whether a Debug text ends
-//! so, which tests of cells use too; worked schedules and their reader.
+//! What tests share: a machine without memory, a writer that fails, whether a Debug text ends so, what a poll of a
+//! cell's future answered, and the reader of worked schedules.
 
 pub mod memory;
-#[cfg(test)]
-pub mod rows;
-#[cfg(test)]
+pub mod poll;
 pub mod schedule;
 pub mod target;
 pub mod text;

@@ -3,8 +3,7 @@
 //! `book_uses` runs the uses of `pagebook`. `layers` and `counting` call the layers one by one.
 //! `fills` and `room` have what the list of those that wait takes of memory.
 //! `parts` has the parts of a cell alone, by hand and by whole calls of tasks, and `scenes` step by step. `poller`
-//! polls the inits of their tasks. `replay` has scripts with their records. `doubles` is for the tests of cells and of
-//! `memo` too.
+//! polls the inits of their tasks. `doubles` is for the tests of cells, of `memo` and of `once_show` too.
 #![tactic(auto)]
 
 #[cfg(test)]
@@ -22,8 +21,6 @@ mod layers;
 mod parts;
 #[cfg(test)]
 mod poller;
-#[cfg(test)]
-mod replay;
 #[cfg(test)]
 mod room;
 #[cfg(test)]

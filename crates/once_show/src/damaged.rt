@@ -3,7 +3,7 @@
 
 use crate::chance::Chance;
 use crate::plain::Rules;
-use crate::replays::{answer, call, record, task, waker};
+use crate::records::{answer, call, record, task, waker};
 use once_judge::{Calls, judge};
 use once_script::parse::record::RecordText;
 use once_script::world::{Entry, Got, Reply};

@@ -1,7 +1,7 @@
 //! Replays at random, of which is told what can be seen from outside: a run is found that has it.
 
 use crate::chance::Chance;
-use crate::replays::record;
+use crate::records::record;
 use once_judge::{Calls, Verdict, judge};
 use once_script::parse::record::RecordText;
 use once_script::print::FullLine;

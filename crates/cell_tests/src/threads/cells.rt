@@ -6,7 +6,6 @@ mod failing;
 mod gathered;
 mod pairs;
 mod rounds;
-mod seen;
 mod stress;
 mod together;
 mod told;

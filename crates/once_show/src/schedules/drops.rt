@@ -1,6 +1,6 @@
 //! Tasks that are dropped, between all steps of the others.
 
-/// Worked schedules, in the form of `crate::doubles::schedule`.
+/// Worked schedules, in the form of `machine_tests::doubles::schedule`.
 pub const DROPS: &str = "\
 # drop_not_over: a waiting task is dropped after the fill: two steps do not end its drop
 once 8

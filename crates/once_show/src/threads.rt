@@ -3,13 +3,12 @@
 //! In half of the rounds the calls of the threads overlap, and a task sees no more of a wake than that it was woken. In
 //! the other half one call is made at a time, so that each wake is seen with the call that made it.
 
-use crate::doubles::poll::{heard, tasks};
-use crate::doubles::stub::Tried;
 use async_once_cell::record::{Entry, Kind, Ran, Reply};
 use async_once_cell::{OnceCell, TryInitFuture};
 use futures::Future;
 use futures::task::{Context, Poll};
 use futures::test::MockTask;
+use machine_tests::doubles::poll::{heard, tasks};
 use once_judge::{Calls, Verdict, judge};
 use once_view::observed::{Answer, Event, Observed, StopLine, linearize};
 use rand_core::{Rng, SeedableRng};
@@ -22,6 +21,8 @@ use std::sync::{Mutex, Wait};
 use std::test::Fail;
 use std::thread::{self, Threads};
 use std::time::{Clock, Duration};
+
+type Tried = Result<u64, u64>;
 
 const ROUNDS: u64 = 100;
 

@@ -1,4 +1,4 @@
-//! Worked schedules, in the form of `crate::doubles::schedule`.
+//! Worked schedules, in the form of `machine_tests::doubles::schedule`.
 
 pub use calls::CALLS;
 pub use drops::DROPS;

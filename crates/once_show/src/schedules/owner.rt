@@ -1,6 +1,6 @@
 //! Calls of the owner, and lazy cells.
 
-/// Worked schedules, in the form of `crate::doubles::schedule`.
+/// Worked schedules, in the form of `machine_tests::doubles::schedule`.
 pub const OWNER: &str = "\
 # calls_of_the_other_kind: calls that a once cell does not have do nothing
 once 8 with 3

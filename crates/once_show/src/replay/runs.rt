@@ -1,7 +1,7 @@
 //! Whole runs, with readers and writers that fail.
 use super::rows::compare;
-use crate::doubles::memory::{hoard, hoard_most, hoard_rest};
-use crate::doubles::target::Target;
+use machine_tests::doubles::memory::{hoard, hoard_most, hoard_rest};
+use machine_tests::doubles::target::Target;
 use once_script::fault::Fault;
 use once_script::parse::{Line, parse_line, parse_script};
 use once_script::print::print_record;

@@ -1,6 +1,6 @@
 //! Polls in turn, and inputs that do not fit.
 
-/// Worked schedules, in the form of `crate::doubles::schedule`.
+/// Worked schedules, in the form of `machine_tests::doubles::schedule`.
 pub const PLAIN: &str = "\
 # changed_waker: a task that waits polls again with another waker: the newer one alone is handed out
 once 8

@@ -1,8 +1,8 @@
 //! Worked schedules: what each line adds to the record, and the whole record that a replay prints.
 
 use super::runs::printed_by;
-use crate::doubles::rows::{CALLS, DROPS, OWNER, PLAIN, REFUSALS};
-use crate::doubles::schedule::{Schedule, schedules_in};
+use crate::schedules::{CALLS, DROPS, OWNER, PLAIN, REFUSALS};
+use machine_tests::doubles::schedule::{Schedule, schedules_in};
 use once_judge::{Calls, judge};
 use once_script::fault::Fault;
 use once_script::parse::record::parse_record;

@@ -1,6 +1,6 @@
 //! Failures that wake a waiter, and turns that are passed on.
 
-/// Worked schedules, in the form of `crate::doubles::schedule`.
+/// Worked schedules, in the form of `machine_tests::doubles::schedule`.
 pub const CALLS: &str = "\
 # a_claim_takes_its_listing_out: who claims is no longer listed: its own failure calls the other task, and not itself
 once 8

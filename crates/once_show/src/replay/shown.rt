@@ -1,7 +1,7 @@
 //! What `once_show` makes of a script: its table, its picture, and what it says of a mistake.
-use crate::doubles::rows::{CALLS, DROPS, OWNER, PLAIN, REFUSALS};
-use crate::doubles::schedule::schedules_in;
-use crate::doubles::target::Target;
+use crate::schedules::{CALLS, DROPS, OWNER, PLAIN, REFUSALS};
+use machine_tests::doubles::schedule::schedules_in;
+use machine_tests::doubles::target::Target;
 use once_machine::step::{Place, Step};
 use once_script::world::{Entry, Input, Kind, Ran, World};
 use once_view::fault::Fault;

@@ -1,6 +1,6 @@
 //! Limits, and memory that is refused.
 
-/// Worked schedules, in the form of `crate::doubles::schedule`.
+/// Worked schedules, in the form of `machine_tests::doubles::schedule`.
 pub const REFUSALS: &str = "\
 # door_asks_memory_first: a task is refused memory for a queue, though another put one meanwhile
 once 8
