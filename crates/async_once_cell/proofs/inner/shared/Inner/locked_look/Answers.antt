@@ -15,7 +15,7 @@ use Rattle.async_once_cell.specs.Inner.Places.{CanRest}
 use Rattle.async_once_cell.specs.Inner.Steps.{StandsForStep}
 use Rattle.async_once_cell.specs.Walks.{StandsOn, the_queue}
 use Rattle.async_once_cell.specs.declared.inner.ways.Reached.TheVariants.{Claimed, Ready, Waits}
-use Rattle.async_once_cell.proofs.Walk.Ways.{copied, looked}
+use Rattle.async_once_cell.proofs.Walk.Ways.{copied, looked, onward}
 use Rattle.async_once_cell.proofs.inner.shared.Inner.locked_look.Goals as goal
 
 -- what the task knows is the same after a renewal
@@ -73,3 +73,11 @@ locked_list-requires-clause-stands g c =
     let s = c.look-answer in
     (copied g.W.TaskWaker.whose c.args.ticket s.result.0 (Look s.new.ticket) (Some c.in-Some-copy.waker) c.in_default.not-Ready c.in_default.not-Claimed c.in_default.not-Listed
     c.requires.stands s.ensures.did (g.met.S.TaskSide.tells.copy _ _ _ c.in-Some-copy.ensures.did) refl refl).stands
+
+pub returns-in-Some-copy-clause-leads : goal.returns-in-Some-copy-clause-leads
+returns-in-Some-copy-clause-leads g c =
+    let s = c.look-answer in
+    onward g.W.TaskWaker.whose
+    (copied g.W.TaskWaker.whose c.args.ticket s.result.0 (Look s.new.ticket) (Some c.in-Some-copy.waker) c.in_default.not-Ready c.in_default.not-Claimed c.in_default.not-Listed
+    c.requires.stands s.ensures.did (g.met.S.TaskSide.tells.copy _ _ _ c.in-Some-copy.ensures.did) refl refl)
+    c.locked_list.ensures.leads
