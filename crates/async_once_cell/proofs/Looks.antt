@@ -10,7 +10,7 @@ use Rattle.async_once_cell.specs.Tokens.{Looks}
 
 module _ {T : Type 0} where
   -- the record grows
-  look_grows : (c : CellView T) (k : Option T) (found : Bool) (old new : List Entry) → Looks c k found old new → IsPrefix old new
+  pub look_grows : (c : CellView T) (k : Option T) (found : Bool) (old new : List Entry) → Looks c k found old new → IsPrefix old new
   look_grows (Shared s) None found old new looked = prefix_on old looked.0 new looked.1 (_, sym looked.2)
   look_grows (Shared s) (Some x) found old new same = ([], append-nil old ∙ sym same)
   look_grows (Owned x) k found old new same = ([], append-nil old ∙ sym same)

@@ -1,7 +1,7 @@
 -- A token that finds the value learns it. One that finds nothing knew nothing before, and knows nothing after the look.
 -- So what `wait_as_on` says holds of the whole call.
 use Rattle.std.proofs.Common.{rules}
-use Rattle.async_once_cell.proofs.Looks.{grows_on, waits_on}
+use Rattle.async_once_cell.proofs.Looks.{grows_on, look_grows, waits_on}
 use Rattle.async_once_cell.proofs.once.future.Initializing.wait_as.Goals as goal
 
 pub returns-in-Some-clause-value : goal.returns-in-Some-clause-value
@@ -12,3 +12,9 @@ returns-clause-value g c = waits_on _ _ c.in_default.ensures.value c.wait_as_on.
 
 pub returns-clause-log : goal.returns-clause-log
 returns-clause-log g c = grows_on _ _ _ _ _ _ c.get_as.ensures.look c.wait_as_on.ensures.log
+
+pub returns-in-Some-clause-log : goal.returns-in-Some-clause-log
+returns-in-Some-clause-log g c = look_grows _ _ _ _ _ c.get_as.ensures.look
+
+pub returns-in_err-parker-clause-log : goal.returns-in_err-parker-clause-log
+returns-in_err-parker-clause-log g c = look_grows _ _ _ _ _ c.get_as.ensures.look

@@ -6,6 +6,7 @@ use Rattle.futures.specs.Poll.{IfReady}
 use Rattle.async_once_cell.specs.Inits.{TellsOwn}
 use Rattle.async_once_cell.specs.Polls.{DidPoll, Polls, PollsAs, ending_by}
 use Rattle.async_once_cell.proofs.Inits.{tells_on}
+use Rattle.async_once_cell.proofs.Looks.{look_grows}
 use Rattle.async_once_cell.proofs.once.future.Initializing.wait_as_on.Goals as goal
 
 pub returns-in-Some-clause-value : goal.returns-in-Some-clause-value
@@ -37,3 +38,9 @@ pub returns-in-Ready-clause-own : goal.returns-in-Ready-clause-own
 returns-in-Ready-clause-own g c =
     let own = subst (λ r. IfReady r (TellsOwn g.I.Init.may_fail g.X.Failure.ending c.loop.self.init)) c.in-Ready.is c.poll_as-polled.ensures.own in
     tells_on g.I.Init.may_fail g.X.Failure.ending c.args.self.init c.loop.self.init c.loop.invariant.5 c.in-Ready.answer own
+
+pub returns-in-Some-clause-log : goal.returns-in-Some-clause-log
+returns-in-Some-clause-log g c = look_grows _ _ _ _ _ c.get_as.ensures.look
+
+pub returns-in_err-add-clause-log : goal.returns-in_err-add-clause-log
+returns-in_err-add-clause-log g c = look_grows _ _ _ _ _ c.get_as.ensures.look
