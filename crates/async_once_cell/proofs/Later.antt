@@ -39,7 +39,7 @@ module _ {T : Type 0} where
   }
 
   -- a future's poll, since all that it learned
-  spans_after : {F : Type 0} (old mid new : FutureView T F) (before after : Context) (e : Ending) (seen : List Entry) → mid.cell ≡ old.cell → mid.task ≡ old.task → IsPrefix seen mid.log
+  pub spans_after : {F : Type 0} (old mid new : FutureView T F) (before after : Context) (e : Ending) (seen : List Entry) → mid.cell ≡ old.cell → mid.task ≡ old.task → IsPrefix seen mid.log
       → DidPoll mid new before after e → SpansIn old.cell old.task (end_of old.task e) seen new.log
   spans_after old mid new before after e seen cell task grown did =
       spans_later old.cell old.task (end_of old.task e) seen mid.log new.log grown
