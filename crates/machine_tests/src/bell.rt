@@ -1,11 +1,14 @@
-//! The waker of a task under test.
+//! A cell under test, and the waker of its tasks.
 ghost use Rattle.std.specs.Prelude.{◌≡◌};
 
-use async_once_cell::inner::{Mark, TaskWaker};
+use async_once_cell::inner::{Inner, Mark, TaskWaker};
 use once_machine::step::Out;
 use once_machine::waiters::{Listing, WakerId};
 use std::alloc::{AllocError, Global};
 use std::snapshot::Snapshot;
+
+/// What the tasks of a cell share. The value is the name of the task that gave it.
+pub type Cell = Inner<u64, Bell>;
 
 /// A waker: the number that a test gives its task, and the task's mark.
 #[derive(Drop)]

@@ -1,6 +1,7 @@
 //! The uses of `pagebook` at work, most of them by two threads; and the sizes and the lock of `pagebook`.
 ghost use Rattle.std.specs.Prelude.{◌≡◌};
 
+use crate::doubles::same::same;
 use pagebook::{Blanks, Key, Keyed, KeyedMutex, Pens, Seen, Slot, Word, Written};
 use pagebook_uses::first::race;
 use pagebook_uses::hall::{Arrival, Desk, HallRule, Page, visits};
@@ -11,7 +12,7 @@ use std::alloc::{AllocError, AllocGlobal};
 use std::marker::Brand;
 use std::mem::size_of;
 use std::sync::{Mutex, Wait};
-use std::test::*;
+use std::test::Fail;
 
 /// How often each thread goes in and out, or tries.
 const TIMES: u32 = 500;
@@ -19,7 +20,7 @@ const TIMES: u32 = 500;
 /// What is ghost takes no bytes, and the state of a slot is ghost. A lock whose content is of a book takes as many as
 /// any lock.
 #[test]
-fn what_is_ghost_has_no_bytes(rt: HostRuntime) -> Result<(), Fail> {
+fn what_is_ghost_has_no_bytes(rt: HostRuntime) {
     let sizes = [
         size_of::<Word<Arrival, Page, HallRule>>(),
         size_of::<Seen<Arrival, Page, HallRule>>(),
@@ -29,83 +30,100 @@ fn what_is_ghost_has_no_bytes(rt: HostRuntime) -> Result<(), Fail> {
     ];
     let slot = size_of::<Slot<u64, Filled, Stage, OneFill>>() == size_of::<Option<u64>>();
     let lock = size_of::<KeyedMutex<Desk>>() == size_of::<Mutex<u64>>();
-    assert_eq!(rt; (sizes, slot, lock), ([8, 0, 0, 0, 0], true, true));
-    Ok(())
+    same(&rt, "a word, and what is ghost", sizes, [8, 0, 0, 0, 0]);
+    same(&rt, "a slot, and a lock", [slot, lock], [true, true]);
 }
 
 /// Just one of two threads is told that it came first.
 #[test]
-fn one_of_two_comes_first(rt: HostRuntime) -> Result<(), Fail> {
+fn one_of_two_comes_first(rt: HostRuntime) {
     let (one, two) = race(&rt);
-    assert!(rt; one != two);
-    Ok(())
+    same(&rt, "whether the second came first", two, !one);
 }
 
 /// Two threads visit 500 times each. All visits are counted, and nobody is inside at the end.
 #[test]
-fn all_visitors_are_counted_and_gone(rt: HostRuntime) -> Result<(), Fail> {
+fn all_visitors_are_counted_and_gone(rt: HostRuntime) {
     let (inside, entered, _log) = visits(&rt, TIMES);
-    assert_eq!(rt; (inside, entered), (0, 1000));
-    Ok(())
+    same(
+        &rt,
+        "who is inside, and who came",
+        [inside, entered],
+        [0, 1000],
+    );
 }
 
 /// The first player hits at least once, and as often as the second or once more.
 #[test]
-fn players_hit_in_turn(rt: HostRuntime) -> Result<(), Fail> {
+fn players_hit_in_turn(rt: HostRuntime) {
     let (pings, pongs, _log) = play(&rt, TIMES);
     let ahead = pings.checked_sub(pongs);
-    assert!(rt; pings >= 1 && (ahead == Some(0) || ahead == Some(1)));
-    Ok(())
+    let in_turn = pings >= 1 && (ahead == Some(0) || ahead == Some(1));
+    same(
+        &rt,
+        "the hits, and whether they are in turn",
+        (pings, pongs, in_turn),
+        (pings, pongs, true),
+    );
 }
 
 /// Two threads draw two numbers each, which are 0 to 3. Of the four draws another thread makes two, so a draw is
 /// refused twice at most.
 #[test]
-fn four_numbers_are_drawn(rt: HostRuntime) -> Result<(), Fail> {
-    let Some((a, b, c, d)) = draw_apart(&rt, 3) else {
-        return Err(Fail::from("a thread drew no number"));
-    };
+fn four_numbers_are_drawn(rt: HostRuntime) {
+    // 9 is no number that is drawn.
+    let (a, b, c, d) = draw_apart(&rt, 3).unwrap_or((9, 9, 9, 9));
     let mut numbers = [a, b, c, d];
     numbers.sort_unstable();
-    assert_eq!(rt; numbers, [0, 1, 2, 3]);
-    Ok(())
+    same(&rt, "the numbers", numbers, [0, 1, 2, 3]);
 }
 
 /// Two threads find nothing before a fill, and the value after it.
 #[test]
-fn a_shelf_is_filled_and_both_find_the_value(rt: HostRuntime) -> Result<(), Fail> {
+fn a_shelf_is_filled_and_both_find_the_value(rt: HostRuntime) {
     let (shelf, filler) = Shelf::<u64>::new();
     let front = filler.seen.again();
     let before = two_looks(&rt, &shelf, &front);
     let (_token, seen) = shelf.fill(7, filler);
     front.agrees(&seen);
     let after = two_looks(&rt, &shelf, &seen);
-    assert_eq!(rt; (before, after), ((None, None), (Some(7), Some(7))));
-    Ok(())
+    same(
+        &rt,
+        "before and after",
+        (before, after),
+        ((None, None), (Some(7), Some(7))),
+    );
 }
 
 /// A look beside a fill finds nothing or the value, and each later one finds the value.
 #[test]
-fn a_look_beside_a_fill_finds_nothing_or_the_value(rt: HostRuntime) -> Result<(), Fail> {
+fn a_look_beside_a_fill_finds_nothing_or_the_value(rt: HostRuntime) {
     let (shelf, filler) = Shelf::<u64>::new();
     let front = filler.seen.again();
     let beside = fill_and_look(&rt, &shelf, filler, &front, 5);
     let after = two_looks(&rt, &shelf, &front);
-    assert!(rt; beside.is_none() || beside == Some(5));
-    assert_eq!(rt; after, (Some(5), Some(5)));
-    Ok(())
+    same(
+        &rt,
+        "beside the fill, and after it",
+        (beside.unwrap_or(5), after),
+        (5, (Some(5), Some(5))),
+    );
 }
 
 /// The owner of a shelf takes the value once it is there.
 #[test]
-fn an_owner_has_the_value(rt: HostRuntime) -> Result<(), Fail> {
+fn an_owner_has_the_value(rt: HostRuntime) {
     let (shelf, filler) = Shelf::<u64>::new();
     let (token, _seen) = shelf.fill(7, filler);
     let copy = token.again();
     let value = shelf.into_value(&copy);
     let (empty, _filler) = Shelf::<u64>::new();
-    assert_eq!(rt; (value, empty.take()), (7, None));
-    Ok(())
+    same(
+        &rt,
+        "the value, and that of an empty shelf",
+        (Some(value), empty.take()),
+        (Some(7), None),
+    );
 }
 
 /// A lock's content, which is of the book that its number stands for.
@@ -168,11 +186,17 @@ fn a_lock_keeps_its_book_and_shows_its_content(rt: HostRuntime) -> Result<(), Fa
         },
     );
     let last = lock.into_inner();
-    assert_eq!(rt; (numbers, sum, last.number, last.sum), ((7, 7), 12, 7, 12));
-    assert_eq!(rt;
-        free.as_str(),
-        "KeyedMutex { data: Tally { number: 7, sum: 7 }, .. }"
+    let shown = [free.as_str(), held.as_str()];
+    let wanted = [
+        "KeyedMutex { data: Tally { number: 7, sum: 7 }, .. }",
+        "KeyedMutex { data: \"<locked>\", .. }",
+    ];
+    same(
+        &rt,
+        "the numbers and sums",
+        [numbers.0, numbers.1, sum, last.number, last.sum],
+        [7, 7, 12, 7, 12],
     );
-    assert_eq!(rt; held.as_str(), "KeyedMutex { data: \"<locked>\", .. }");
+    same(&rt, "what the lock shows", shown, wanted);
     Ok(())
 }

@@ -1,6 +1,7 @@
 //! A fill asks for no memory, also if the list could not note where a listing was put.
 
 use crate::doubles::memory::hoard;
+use crate::doubles::same::same;
 use once_machine::step::Out;
 use once_machine::waiters::{Answer, Lists};
 use once_machine::word::NEW;
@@ -64,6 +65,12 @@ fn filled(alloc: Global, leaves: bool) -> Result<[bool; 3], AllocError> {
 #[test]
 fn a_fill_asks_for_no_memory(rt: HostRuntime) -> Result<(), Fail> {
     let seen = [filled(rt.alloc(), false)?, filled(rt.alloc(), true)?];
-    assert_eq!(rt; seen, [[true, true, false], [true, true, true]]);
+    let wanted = [[true, true, false], [true, true, true]];
+    same(
+        &rt,
+        "without memory, and with as much as a note would take",
+        seen,
+        wanted,
+    );
     Ok(())
 }

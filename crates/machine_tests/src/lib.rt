@@ -1,9 +1,9 @@
 //! The machine under test, in what no clause says of it: memory, wakers, sizes, locks, and what is printed.
 //!
-//! `book_uses` runs the uses of `pagebook`. `layers` and `counting` call the layers one by one.
-//! `fills` and `room` have what the list of those that wait takes of memory.
-//! `parts` has the parts of a cell alone, by hand and by whole calls of tasks, and `scenes` step by step. `poller`
-//! polls the inits of their tasks. `doubles` is for the tests of cells, of `memo` and of `once_show` too.
+//! `book_uses` runs the uses of `pagebook`. `fills` and `room` have what the list of those that wait takes of memory.
+//! `parts` has the parts of a cell alone, by hand; `scenes` has tasks over them step by step, and `calls` by whole
+//! calls. Both are scenes (`plays`) of tasks whose sides (`side`) poll inits (`poller`) and have wakers (`bell`) of
+//! their own. `doubles` is for the tests of cells, of `memo` and of `once_show` too.
 #![tactic(auto)]
 
 #[cfg(test)]
@@ -11,17 +11,19 @@ mod bell;
 #[cfg(test)]
 mod book_uses;
 #[cfg(test)]
-mod counting;
+mod calls;
 pub mod doubles;
 #[cfg(test)]
 mod fills;
 #[cfg(test)]
-mod layers;
-#[cfg(test)]
 mod parts;
+#[cfg(test)]
+mod plays;
 #[cfg(test)]
 mod poller;
 #[cfg(test)]
 mod room;
 #[cfg(test)]
 mod scenes;
+#[cfg(test)]
+mod side;

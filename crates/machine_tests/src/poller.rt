@@ -1,16 +1,15 @@
-//! Where the sides under test poll their inits.
+//! Where the side under test polls its init.
 ghost use Rattle.std.specs.Prelude.{◌≡◌, IsSome};
 ghost use Rattle.async_once_cell.specs.Inner.Hands.{HasRight, HasRun};
 
 use async_once_cell::inner::{Hand, Pollable};
 use async_once_cell::{Init, InitError};
 use futures::Future;
-use futures::task::{Context, Doorbell, Poll, Queue};
+use futures::task::{Context, Doorbell, Poll, Solo};
 use once_machine::step::Polled;
 use std::alloc::AllocGlobal;
 use std::io;
 use std::random::RandomSource;
-use std::sync::Wait;
 
 /// An init that answers so at each poll. It gives no value of its own: a side makes that.
 #[derive(Drop)]
@@ -37,30 +36,15 @@ pub fn init_that_answers(answer: Polled) -> Pollable<Scripted> {
 
 /// Polls inits, one at a time, in contexts of a task of its own.
 #[derive(Drop)]
-pub struct Poller<'r, R> {
-    rt: &'r R,
-    // It has one task, which asks to be polled again at each poll.
-    tasks: Queue,
+pub struct Poller {
+    task: Solo,
 }
 
-impl<'r, R: AllocGlobal + RandomSource> Poller<'r, R> {
+impl Poller {
     /// It takes memory, and polls take none.
-    pub fn new(rt: &'r R) -> io::Result<Self> {
-        let tasks = Queue::new(rt, Doorbell::spinning())?;
-        tasks.add()?.schedule();
-        Ok(Poller { rt, tasks })
-    }
-}
-
-impl<R: Wait> Poller<'_, R> {
-    // The context of the next poll. The task asks for it at once, so nobody waits here.
-    fn next(&self) -> Context<'_> {
-        for _ in self.rt.forever() {
-            if let Some(cx) = self.tasks.next(self.rt) {
-                return cx;
-            }
-        }
-        unreachable!()
+    pub fn new<R: AllocGlobal + RandomSource>(rt: &R) -> io::Result<Self> {
+        let task = Solo::new(rt, Doorbell::spinning())?;
+        Ok(Poller { task })
     }
 
     /// Polls the init once, with the right of its task.
@@ -70,7 +54,7 @@ impl<R: Wait> Poller<'_, R> {
         ensures ran { HasRun right.old result right.new }
         ensures init { result ≡ Polled.Pending → IsSome init.new }
     {
-        let mut cx = self.next();
+        let mut cx = self.task.begin();
         let polled = <Pollable<Scripted> as Init<(), InitError<()>>>::poll_init(
             init, &mut cx, right,
         );

@@ -1,6 +1,7 @@
 //! How much memory a list takes whose listings come and go: no more than for four times as many as ever wait at once.
 
 use crate::doubles::memory::hoard;
+use crate::doubles::same::same;
 use once_machine::waiters::{Answer, Lists};
 use once_machine::word::{NEW, QINIT_BIT};
 use rand_core::{Rng, SeedableRng};
@@ -107,10 +108,11 @@ fn a_list_takes_no_more_room_while_waiters_come_and_go(rt: HostRuntime) -> Resul
     for seed in 0..3 {
         let without = comes_and_goes(rt.alloc(), seed, false)?;
         let beside = comes_and_goes(rt.alloc(), seed, true)?;
-        assert_eq!(rt;
-            [without, beside],
-            [[true, false], [true, true]],
-            "of seed {seed}"
+        same(
+            &rt,
+            "of a seed",
+            (seed, without, beside),
+            (seed, [true, false], [true, true]),
         );
     }
     Ok(())

@@ -1,7 +1,6 @@
 //! Tasks over the parts that threads share, each walked one step at a time, by scenes that were worked by hand.
 
 mod gated;
-mod noting;
 mod rows;
 mod scene;
 mod stranded;

@@ -1,13 +1,14 @@
 //! Scenes of a cell and its tasks over shared parts, where a copy of a waker may be refused.
 //!
-//! A scene is a schedule (`crate::doubles::schedule`) of an empty once cell, whose lines lead to something else than
-//! entries. Several lines of a script may stand in one, with `; ` between two. `x` refuses the copy of a waker, and no
-//! other memory. The waker of a task has its number. After `=>` stands what the last step came to: how the call ended,
-//! or None; the notes of its side since the line before; and where its task then stands. `show` tells the word, and
-//! whether a queue stands at the door. What a line without `=>` comes to is not told.
+//! A line of a scene (`crate::plays`) is a line of a script, of an empty once cell. `x` refuses the copy of a waker, and
+//! no other memory. The waker of a task has its number. After `=>` stands what the last step came to: how the call
+//! ended, or None; the notes of its side since the line before; and where its task then stands. `show` tells the word,
+//! and whether a queue stands at the door.
 
-use super::walker::{Cell, Walker};
-use crate::doubles::schedule::{Schedule, schedules_in};
+use super::walker::Walker;
+use crate::bell::Cell;
+use crate::doubles::schedule::schedules_in;
+use crate::plays::{Plays, check};
 use once_machine::step::{Ending, Polled, Progress};
 use once_script::parse::{Line, RUN_STEPS, parse_line};
 use once_script::world::{Input, Ran};
@@ -26,35 +27,20 @@ struct Scene<'a, 'r, R> {
     tasks: BTreeMap<u64, Walker<'a, 'r, R>>,
 }
 
-impl<'a, 'r, R: Wait + AllocGlobal + RandomSource> Scene<'a, 'r, R> {
-    // This cell, which nobody has used.
-    fn new(cell: &'a Cell, rt: &'r R) -> Self {
-        Scene {
-            cell,
-            rt,
-            tasks: BTreeMap::new(rt.alloc()),
+impl<R: Wait + AllocGlobal + RandomSource> Plays for Scene<'_, '_, R> {
+    fn tell(&mut self, text: &str) -> io::Result<Option<String>> {
+        let alloc = self.rt.alloc();
+        if text == "show" {
+            return Ok(Some(format!(in alloc; "{:?}", self.cell)?));
+        }
+        match parse_line(alloc, text)? {
+            Some(line) => self.play(&line),
+            None => Ok(None),
         }
     }
+}
 
-    // What a line of the scene comes to.
-    fn tell(&mut self, order: &str) -> io::Result<Option<String>> {
-        let (alloc, cell) = (self.rt.alloc(), self.cell);
-        if order == "show" {
-            return Ok(Some(format!(in alloc; "{cell:?}")?));
-        }
-        let mut told = None;
-        for text in order.split("; ") {
-            let Some(line) = parse_line(alloc, text)? else {
-                return Ok(None);
-            };
-            told = self.play(&line)?;
-            if told.is_none() {
-                break;
-            }
-        }
-        Ok(told)
-    }
-
+impl<R: Wait + AllocGlobal + RandomSource> Scene<'_, '_, R> {
     fn play(&mut self, line: &Line) -> io::Result<Option<String>> {
         match line {
             Line::Single(Input::Make(t)) => self.make(*t),
@@ -130,7 +116,7 @@ fn go_on<R: Wait + AllocGlobal>(
 }
 
 // How the last step ended the call, what the side noted, and where the task stands. None says that a note was lost.
-fn told<R: Wait>(
+fn told<R: Wait + AllocGlobal>(
     alloc: Global,
     task: &mut Walker<'_, '_, R>,
     ending: Option<Ending>,
@@ -142,7 +128,7 @@ fn told<R: Wait>(
     Ok(Some(format!(in alloc; "{ending:?} {notes:?} {stage}")?))
 }
 
-fn stage<R: Wait>(task: &Walker<'_, '_, R>) -> &'static str {
+fn stage<R: Wait + AllocGlobal>(task: &Walker<'_, '_, R>) -> &'static str {
     let step = task.step();
     if step.is_resting() {
         "rests"
@@ -153,31 +139,17 @@ fn stage<R: Wait>(task: &Walker<'_, '_, R>) -> &'static str {
     }
 }
 
-// What the lines of a scene come to.
-fn came<R: Wait + AllocGlobal + RandomSource>(
-    rt: &R,
-    schedule: &Schedule<'_>,
-) -> Result<Vec<String>, Fail> {
-    let alloc = rt.alloc();
-    let cell = Cell::new();
-    let mut scene = Scene::new(&cell, rt);
-    let mut came = Vec::new(alloc);
-    for line in &schedule.lines {
-        let order = line.order;
-        let Some(told) = scene.tell(order)? else {
-            return Err(Fail::new(format_args!("in {schedule}: {order:?} does not fit")));
-        };
-        let is_told = !line.added.is_empty();
-        came.push(if is_told { told } else { String::new(alloc) })?;
-    }
-    Ok(came)
-}
-
-/// Plays each scene of a text, and compares what its lines come to with what stands beside them.
+/// Plays each scene of a text.
 pub fn play<R: Wait + AllocGlobal + RandomSource>(rt: &R, text: &str) -> Result<(), Fail> {
     for schedule in &schedules_in(rt.alloc(), text)? {
-        let came = came(rt, schedule)?;
-        schedule.check(rt.alloc(), &came)?;
+        let cell = Cell::new();
+        let tasks = BTreeMap::new(rt.alloc());
+        let mut scene = Scene {
+            cell: &cell,
+            rt,
+            tasks,
+        };
+        check(rt.alloc(), &mut scene, schedule)?;
     }
     Ok(())
 }

@@ -6,24 +6,21 @@ ghost use Rattle.async_once_cell.specs.Inner.Sides.{IsReady};
 ghost use Rattle.async_once_cell.specs.Walks.{StandsOn};
 ghost use Rattle.machine_tests.specs.Goes.{Goes, Goes-prop};
 
-use super::noting::{Note, Noting};
-use crate::bell::Bell;
-use async_once_cell::inner::{Inner, Shared};
+use crate::bell::{Bell, Cell};
+use crate::side::{Note, TestSide};
+use async_once_cell::inner::Shared;
 use once_machine::step::{Polled, Progress, Step};
 use std::alloc::AllocGlobal;
 use std::io;
 use std::random::RandomSource;
 use std::sync::Wait;
 
-/// What the tasks of a cell share, which has the value `()`.
-pub type Cell = Inner<(), Bell>;
-
 /// A task over shared parts, with its side. Between two of its steps other tasks may make theirs.
 #[derive(Drop)]
 pub struct Walker<'a, 'r, R> {
-    parts: Shared<'a, 'r, (), Bell, R>,
+    parts: Shared<'a, 'r, u64, Bell, R>,
     step: Step<Bell, ()>,
-    side: Noting<'r, R>,
+    side: TestSide,
     // What the last step told, and whether the call under way is a drop.
     told: Progress,
     is_drop: bool,
@@ -36,11 +33,14 @@ pub struct Walker<'a, 'r, R> {
     ghost rests: { is_resting step ≡ true → StandsOn (λ b. b.mark.value) (own parts) step },
 }
 
-impl<'a, 'r, R: AllocGlobal + RandomSource> Walker<'a, 'r, R> {
-    /// A new task of the cell, with this number.
-    pub fn new(cell: &'a Cell, rt: &'r R, task: u64) -> io::Result<Self> {
+impl<'a, 'r, R: Wait + AllocGlobal> Walker<'a, 'r, R> {
+    /// A new task of the cell, of this name.
+    pub fn new(cell: &'a Cell, rt: &'r R, name: u64) -> io::Result<Self>
+    where
+        R: RandomSource,
+    {
         let parts = cell.task(rt);
-        let side = Noting::new(rt, task, parts.mark())?;
+        let side = TestSide::new(rt, name, parts.mark(), Polled::Pending)?;
         Ok(Walker {
             parts,
             step: Step::new(),
@@ -49,9 +49,7 @@ impl<'a, 'r, R: AllocGlobal + RandomSource> Walker<'a, 'r, R> {
             is_drop: false,
         })
     }
-}
 
-impl<R: Wait> Walker<'_, '_, R> {
     /// Where the task stands.
     pub fn step(&self) -> &Step<Bell, ()> {
         &self.step
@@ -83,9 +81,7 @@ impl<R: Wait> Walker<'_, '_, R> {
         (self.told, self.is_drop) = (Progress::More, true);
         self.step.begin_drop(&mut self.side)
     }
-}
 
-impl<R: Wait + AllocGlobal> Walker<'_, '_, R> {
     /// Makes one step of the call that is under way: an init that is polled answers so, and memory for a copy of the
     /// waker is given or not. `None` says that no call is under way.
     pub fn go(&mut self, answer: Polled, is_granted: bool) -> Option<Progress> {

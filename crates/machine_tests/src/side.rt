@@ -1,4 +1,4 @@
-//! A side over shared parts that notes what is asked of it.
+//! The side of a task, which notes what is asked of it.
 ghost use Rattle.std.specs.Prelude.{◌≡◌, [], IfOk, refl, true, ⊤};
 ghost use Rattle.async_once_cell.specs.Inner.Sides.{IsReady};
 ghost use Rattle.std.proofs.Common.{rules};
@@ -13,10 +13,9 @@ use std::alloc::AllocGlobal;
 use std::marker::Model;
 use std::random::RandomSource;
 use std::snapshot::Snapshot;
-use std::sync::Wait;
 use std::{io, mem};
 
-/// One call of a side, with what it was answered or given. A waker stands in it by the number of its task.
+/// One call of a side, with what it was answered or given. A waker stands in it by the name of its task.
 #[derive(Debug, Drop)]
 pub enum Note {
     Ran(Polled),
@@ -26,18 +25,20 @@ pub enum Note {
     Woke(Out<u64>),
 }
 
-/// The side of a task over shared parts, which notes its calls but for `keep` and `renew`. A clause sees what is told
-/// of it.
+/// The side of a task, which notes its calls but for `keep` and `renew`. The value that it gives is the name of its
+/// task. A clause sees what is told of it.
 #[derive(Drop)]
-pub struct Noting<'r, R> {
+pub struct TestSide {
     mark: Mark,
-    // The number of its task, which its waker has too.
-    task: u64,
-    poller: Poller<'r, R>,
+    /// The name of its task, which its waker has too.
+    pub name: u64,
+    poller: Poller,
     init: Option<Pollable<Scripted>>,
     // Whether memory for a copy of the waker is given.
     is_granted: bool,
     notes: Vec<Note>,
+    /// How often the init was polled.
+    pub polls: u64,
     // A note was lost, since the memory for it was refused.
     is_short: bool,
     // What the init gave.
@@ -49,7 +50,7 @@ pub struct Noting<'r, R> {
     woke: Snapshot<Out<Bell>>,
 }
 
-impl<'r, R> Model for Noting<'r, R> {
+impl Model for TestSide {
     ghost use Rattle.std.specs.Option.{is_some};
     ghost use Rattle.async_once_cell.specs.Inner.Named.{named_out};
     ghost use Rattle.async_once_cell.specs.Inner.Sides.{Sided};
@@ -66,18 +67,21 @@ impl<'r, R> Model for Noting<'r, R> {
     } };
 }
 
-impl<'r, R: AllocGlobal + RandomSource> Noting<'r, R> {
-    /// The side of this task, which has this mark, and whose init is pending.
-    pub fn new(rt: &'r R, task: u64, mark: Mark) -> io::Result<Self>
+impl TestSide {
+    /// The side of the task of this name, which has this mark, and whose init answers so.
+    pub fn new<R>(rt: &R, name: u64, mark: Mark, answer: Polled) -> io::Result<Self>
+    where
+        R: AllocGlobal + RandomSource,
         ensures { IfOk result (λ s. (s.number ≡ mark) × IsReady s) }
     {
-        Ok(Noting {
+        Ok(TestSide {
             mark,
-            task,
+            name,
             poller: Poller::new(rt)?,
-            init: Some(init_that_answers(Polled::Pending)),
+            init: Some(init_that_answers(answer)),
             is_granted: true,
-            notes: Vec::new(rt.alloc()),
+            notes: Vec::with_capacity(rt.alloc(), 4)?,
+            polls: 0,
             is_short: false,
             has_value: false,
             has_error: false,
@@ -85,9 +89,7 @@ impl<'r, R: AllocGlobal + RandomSource> Noting<'r, R> {
             woke: Snapshot::of(&Out::One(None)),
         })
     }
-}
 
-impl<R> Noting<'_, R> {
     /// Another call is to begin, in which nobody was woken yet.
     pub fn begin(&mut self)
         ensures { self.new ≡ record self.old { woke = [] } }
@@ -122,11 +124,11 @@ impl<R> Noting<'_, R> {
     }
 }
 
-impl<R: Wait> Side<Bell> for Noting<'_, R> {
+impl Side<Bell> for TestSide {
     ghost use Rattle.std.specs.Prelude.{true};
     ghost use Rattle.async_once_cell.specs.Inner.Sides.{HasWoken, sided_tells};
 
-    type Value = ();
+    type Value = u64;
 
     type Right = Hand;
 
@@ -141,6 +143,7 @@ impl<R: Wait> Side<Bell> for Noting<'_, R> {
     ghost stays_on = { λ a b c p q. Prim.search rules };
 
     fn run(&mut self, right: &mut Hand) -> Polled {
+        self.polls = self.polls.saturating_add(1);
         let polled = self.poller.poll(&mut self.init, right);
         self.note(Note::Ran(polled));
         match polled {
@@ -156,9 +159,10 @@ impl<R: Wait> Side<Bell> for Noting<'_, R> {
         self.note(Note::Closed);
     }
 
-    fn put(&mut self) {
+    fn put(&mut self) -> u64 {
         self.has_value = false;
         self.note(Note::Put);
+        self.name
     }
 
     fn copy(&mut self) -> Option<Bell> {
@@ -166,8 +170,8 @@ impl<R: Wait> Side<Bell> for Noting<'_, R> {
             self.note(Note::Copied(None));
             return None;
         }
-        self.note(Note::Copied(Some(self.task)));
-        Some(Bell::new(self.task, &self.mark))
+        self.note(Note::Copied(Some(self.name)));
+        Some(Bell::new(self.name, &self.mark))
     }
 
     fn wake(&mut self, out: Out<Bell>)
@@ -182,7 +186,7 @@ impl<R: Wait> Side<Bell> for Noting<'_, R> {
     }
 }
 
-impl<R: Wait> Renews<Bell> for Noting<'_, R> {
+impl Renews<Bell> for TestSide {
     ghost renewed = { λ s v t w. (t ≡ s) × (w ≡ v) };
 
     // A task has one bell, which stays.
@@ -191,7 +195,7 @@ impl<R: Wait> Renews<Bell> for Noting<'_, R> {
     }
 }
 
-impl<R: Wait> TaskSide<Bell> for Noting<'_, R> {
+impl TaskSide<Bell> for TestSide {
     ghost use Rattle.std.proofs.Common.{ap};
     ghost use Rattle.async_once_cell.proofs.Sides.{sided_told};
 
@@ -203,7 +207,7 @@ impl<R: Wait> TaskSide<Bell> for Noting<'_, R> {
         false
     }
 
-    fn keep(&mut self, _written: Written<()>)
+    fn keep(&mut self, _written: Written<u64>)
         ensures shown { self.new ≡ record self.old { has_shown = true } }
         ensures stays { self.new.number ≡ self.old.number }
     {

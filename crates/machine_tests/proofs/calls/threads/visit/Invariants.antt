@@ -1,5 +1,5 @@
 use Rattle.std.proofs.Common.{◌≡◌, false}
-use Rattle.machine_tests.proofs.parts.threads.visit.Given as goal
+use Rattle.machine_tests.proofs.calls.threads.visit.Given as goal
 
 -- the task may be polled
 abbrev pub invariant-loop : goal.invariant-loop

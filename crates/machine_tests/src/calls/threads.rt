@@ -1,7 +1,9 @@
 // Two threads, each of which polls tasks of its own until they end.
 ghost use Rattle.std.specs.Prelude.{◌<◌};
 
-use super::walks::{Caller, Cell};
+use super::caller::Caller;
+use crate::bell::Cell;
+use crate::doubles::same::same;
 use once_machine::step::{Ending, Polled};
 use std::alloc::{AllocError, AllocGlobal, Global};
 use std::random::RandomSource;
@@ -36,7 +38,7 @@ fn visit<R: Wait + AllocGlobal + RandomSource>(
     let mut caller = Caller::new(cell, rt, value, Polled::Pending)?;
     for _ in rt.forever() {
         if caller.side.polls >= pending {
-            caller.answers(Polled::Value);
+            caller.answers(Polled::Value, true);
         }
         match caller.poll() {
             Ending::Pending => thread::yield_now(),
@@ -86,6 +88,11 @@ fn alike(here: &[Got], there: &[Got]) -> u64 {
 fn two_threads_get_one_value_of_each_cell(rt: HostRuntime) -> Result<(), Fail> {
     let cells = cells(rt.alloc())?;
     let (here, there) = thread::join(&rt, || visits(&rt, &cells, 1), || visits(&rt, &cells, 2));
-    assert_eq!(rt; alike(&here?, &there?), CELLS);
+    same(
+        &rt,
+        "the cells of which both got one value",
+        alike(&here?, &there?),
+        CELLS,
+    );
     Ok(())
 }
