@@ -2,7 +2,6 @@
 ghost use Rattle.std.specs.Prelude.{◌≡◌};
 
 use async_once_cell::inner::{Inner, Mark, TaskWaker};
-use once_machine::step::Out;
 use once_machine::waiters::{Listing, WakerId};
 use std::alloc::{AllocError, Global};
 use std::snapshot::Snapshot;
@@ -52,21 +51,16 @@ impl TaskWaker for Bell {
     ghost apart = { λ a b e. e };
 }
 
-/// Whom a section wakes, by the numbers of the tasks.
-pub fn named(alloc: Global, out: &Out<Bell>) -> Result<Out<u64>, AllocError> {
-    match out {
-        Out::One(bell) => Ok(Out::One(task_of(bell))),
-        Out::All(listings) => {
-            let mut named = Vec::new(alloc);
-            for listing in listings {
-                named.push(Listing {
-                    ticket: listing.ticket,
-                    waker: task_of(&listing.waker),
-                })?;
-            }
-            Ok(Out::All(named))
-        }
+/// The listings of all whom a section wakes, each with its ticket, and its task if that was not woken before.
+pub fn named(
+    alloc: Global,
+    listings: &[Listing<Bell>],
+) -> Result<Vec<(u64, Option<u64>)>, AllocError> {
+    let mut named = Vec::new(alloc);
+    for listing in listings {
+        named.push((listing.ticket, task_of(&listing.waker)))?;
     }
+    Ok(named)
 }
 
 /// Whose this bell is.

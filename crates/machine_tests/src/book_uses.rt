@@ -1,7 +1,7 @@
 //! The uses of `pagebook` at work, most of them by two threads; and the sizes and the lock of `pagebook`.
 ghost use Rattle.std.specs.Prelude.{◌≡◌};
 
-use crate::doubles::same::same;
+use crate::same::same;
 use pagebook::{Blanks, Key, Keyed, KeyedMutex, Pens, Seen, Slot, Word, Written};
 use pagebook_uses::first::race;
 use pagebook_uses::hall::{Arrival, Desk, HallRule, Page, visits};

@@ -1,9 +1,5 @@
-//! What tests share: the one comparison, a machine without memory, a writer that fails, whether a Debug text ends so,
-//! what a poll of a cell's future answered, and the reader of worked schedules.
+//! What tests share: the crate `doubles`, and what a poll of a cell's future answered.
 
-pub mod memory;
+pub use doubles::{memory, schedule, target, text};
+
 pub mod poll;
-pub mod same;
-pub mod schedule;
-pub mod target;
-pub mod text;

@@ -1,7 +1,7 @@
 //! A fill asks for no memory, also if the list could not note where a listing was put.
 
 use crate::doubles::memory::hoard;
-use crate::doubles::same::same;
+use crate::same::same;
 use once_machine::step::Out;
 use once_machine::waiters::{Answer, Lists};
 use once_machine::word::NEW;

@@ -24,6 +24,8 @@ mod poller;
 #[cfg(test)]
 mod room;
 #[cfg(test)]
+mod same;
+#[cfg(test)]
 mod scenes;
 #[cfg(test)]
 mod side;

@@ -1,7 +1,7 @@
 //! The parts of a cell by hand, one call after the other, and what they take of memory.
 
 use crate::bell::{Bell, Cell};
-use crate::doubles::same::same;
+use crate::same::same;
 use crate::side::TestSide;
 use async_once_cell::inner::{Inner, Mark, Shared, Task};
 use once_machine::parts::{Counted, Parts};

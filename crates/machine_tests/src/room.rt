@@ -1,7 +1,7 @@
 //! How much memory a list takes whose listings come and go: no more than for four times as many as ever wait at once.
 
 use crate::doubles::memory::hoard;
-use crate::doubles::same::same;
+use crate::same::same;
 use once_machine::waiters::{Answer, Lists};
 use once_machine::word::{NEW, QINIT_BIT};
 use rand_core::{Rng, SeedableRng};

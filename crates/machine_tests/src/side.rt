@@ -3,7 +3,7 @@ ghost use Rattle.std.specs.Prelude.{◌≡◌, [], IfOk, refl, true, ⊤};
 ghost use Rattle.async_once_cell.specs.Inner.Sides.{IsReady};
 ghost use Rattle.std.proofs.Common.{rules};
 
-use crate::bell::{Bell, named};
+use crate::bell::{Bell, named, task_of};
 use crate::poller::{Poller, Scripted, init_that_answers};
 use async_once_cell::inner::{Hand, Mark, Pollable, TaskSide};
 use once_machine::step::{Out, Polled, Side};
@@ -22,7 +22,9 @@ pub enum Note {
     Closed,
     Put,
     Copied(Option<u64>),
-    Woke(Out<u64>),
+    WokeOne(Option<u64>),
+    // Each listing, with its ticket.
+    WokeAll(Vec<(u64, Option<u64>)>),
 }
 
 /// The side of a task, which notes its calls but for `keep` and `renew`. The value that it gives is the name of its
@@ -179,9 +181,12 @@ impl Side<Bell> for TestSide {
         ensures stays { self.new.number ≡ self.old.number }
     {
         self.woke = Snapshot::of(&out);
-        match named(*self.notes.allocator(), &out) {
-            Ok(tasks) => self.note(Note::Woke(tasks)),
-            Err(_) => self.is_short = true,
+        match &out {
+            Out::One(bell) => self.note(Note::WokeOne(task_of(bell))),
+            Out::All(listings) => match named(*self.notes.allocator(), listings) {
+                Ok(tasks) => self.note(Note::WokeAll(tasks)),
+                Err(_) => self.is_short = true,
+            },
         }
     }
 }

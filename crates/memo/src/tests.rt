@@ -1,4 +1,4 @@
-//! What the contracts do not say of the table, and whole runs.
+//! What the contracts do not say of the table and of an answer. Whole runs are in `runs`.
 ghost use Rattle.std.specs.Prelude.{◌*◌, ◌^◌, ◌<◌};
 
 mod errors;
@@ -7,22 +7,27 @@ mod promised;
 mod runs;
 mod watched;
 
-use crate::ask::{Answer, KEYS, agreed, answer_within, ask};
+use crate::ask::{KEYS, ask};
 use crate::fault::Fault;
-use crate::fetch::Fetch;
 use crate::table::Memo;
-use async_once_cell::OnceCell;
 use async_once_cell::once::{InitFuture, Known, Refused};
 use futures::future::{Pending, pending};
 use futures::test::MockTask;
 use machine_tests::doubles::memory::hoard;
 use std::alloc::{AllocError, AllocGlobal, Global};
+use std::fmt::Debug;
+use std::process::Abort;
 use std::random::RandomSource;
 use std::sync::Wait;
 use std::sync::atomic::{AtomicU64, Ordering};
 use std::test::Fail;
 use std::time::Clock;
 use watched::Watched;
+
+// The one comparison, which names the row or what is compared: an `assert_eq!` is dear to prove.
+fn same<T: PartialEq + Debug + Drop>(rt: &impl Abort, name: &str, found: T, wanted: T) {
+    assert_eq!(rt; found, wanted, "{name}");
+}
 
 fn table(alloc: Global, keys: &[u64]) -> Result<Memo<u64>, AllocError> {
     let mut given = Vec::new(alloc);
@@ -64,50 +69,53 @@ fn cells_of_keys(rt: HostRuntime) -> Result<(), Fail> {
         value_at(&memo, u64::MAX),
         Some(fetches.load(Ordering::SeqCst)),
     ];
-    let wanted = [70, 70, 70, 0, 0, 1].map(Some);
-    assert_eq!(rt; seen, wanted);
+    let wanted = [Some(70), Some(70), Some(70), Some(0), Some(0), Some(1)];
+    same(
+        &rt,
+        "told twice, then at each key, then the fetches",
+        seen,
+        wanted,
+    );
     Ok(())
 }
 
-// Whether a key has neither cell nor token, and a caller that asks for it is told so.
-fn is_missing<R: Wait + RandomSource + AllocGlobal + Clock>(
+// The key that a caller which asks for this one is told to be missing.
+fn missing<R: Wait + RandomSource + AllocGlobal + Clock>(
     rt: &R,
     memo: &Memo<u64>,
     fetches: &AtomicU64,
     key: u64,
-) -> bool
+) -> Option<u64>
     requires { key * 10 < 2 ^ 64 }
 {
-    if memo.cell(key).is_some() || memo.token(key).is_some() {
-        return false;
-    }
     match ask(rt, memo, fetches, key, 1) {
-        Err(Fault::NoKey(at)) => at == key,
-        _ => false,
+        Err(Fault::NoKey(key)) => Some(key),
+        _ => None,
     }
 }
 
-// Which of three keys are missing in a table of these, and how many fetches there were.
-fn missing_in<R: Wait + RandomSource + AllocGlobal + Clock>(
-    rt: &R,
-    keys: &[u64],
-) -> Result<([bool; 3], u64), AllocError> {
-    let fetches = AtomicU64::new(0);
-    let memo = table(rt.alloc(), keys)?;
-    let missing = [
-        is_missing(rt, &memo, &fetches, 0),
-        is_missing(rt, &memo, &fetches, 5),
-        is_missing(rt, &memo, &fetches, 7),
-    ];
-    Ok((missing, fetches.load(Ordering::SeqCst)))
-}
+// Tables that lack 0, 5 and 7.
+const OTHERS: [&[u64]; 2] = [&[4, 6], &[]];
 
 /// A key that was not given has nothing, and a table of no keys has nothing at all.
 #[test]
 fn keys_without_a_cell(rt: HostRuntime) -> Result<(), Fail> {
-    let some = missing_in(&rt, &[4, 6])?;
-    let none = missing_in(&rt, &[])?;
-    assert_eq!(rt; [some, none], [([true; 3], 0); 2]);
+    let fetches = AtomicU64::new(0);
+    for keys in OTHERS {
+        let memo = table(rt.alloc(), keys)?;
+        let seen = [
+            missing(&rt, &memo, &fetches, 0),
+            missing(&rt, &memo, &fetches, 5),
+            missing(&rt, &memo, &fetches, 7),
+            Some(fetches.load(Ordering::SeqCst)),
+        ];
+        same(
+            &rt,
+            "three keys, and the fetches",
+            seen,
+            [Some(0), Some(5), Some(7), Some(0)],
+        );
+    }
     Ok(())
 }
 
@@ -130,40 +138,25 @@ fn tokens<R: Wait + RandomSource + AllocGlobal + Clock>(
 #[test]
 fn tokens_of_a_key(rt: HostRuntime) -> Result<(), Fail> {
     let memo = table(rt.alloc(), &[1, 2])?;
-    let seen = tokens(&rt, &memo);
-    assert_eq!(rt; seen, Some(([None, Some(20), Some(20)], true)));
+    let wanted = Some(([None, Some(20), Some(20)], true));
+    same(
+        &rt,
+        "before, after, the second token, whether they agree",
+        tokens(&rt, &memo),
+        wanted,
+    );
     Ok(())
-}
-
-// Whether no table of these keys is made while all memory is taken.
-fn is_refused(alloc: Global, keys: Vec<u64>) -> Result<bool, AllocError> {
-    let held = hoard(alloc)?;
-    let is_refused = Memo::<u64>::new(alloc, keys).is_err();
-    drop(held);
-    Ok(is_refused)
 }
 
 /// If all memory is refused, no table is made.
 #[test]
 fn a_table_is_refused(rt: HostRuntime) -> Result<(), Fail> {
     let keys = vec![in rt.alloc(); 1, 2, 3]?;
-    let is_refused = is_refused(rt.alloc(), keys)?;
-    assert!(rt; is_refused);
+    let held = hoard(rt.alloc())?;
+    let is_made = Memo::<u64>::new(rt.alloc(), keys).is_ok();
+    drop(held);
+    same(&rt, "whether a table is made", is_made, false);
     Ok(())
-}
-
-// What a fetch of a key answers within so many turns; None if it gives up.
-fn within<R: Wait + RandomSource + AllocGlobal + Clock>(
-    rt: &R,
-    cell: &OnceCell<u64>,
-    fetch: Fetch<'_>,
-    turns: u64,
-) -> Result<Option<u64>, Fault> {
-    match answer_within(rt, cell.get_or_init(rt, fetch), turns) {
-        Ok(value) => Ok(Some(value)),
-        Err(Fault::Turns) => Ok(None),
-        Err(fault) => Err(fault),
-    }
 }
 
 // A future by which a task holds the cell of a key for good; None if the cell is not free.
@@ -180,19 +173,23 @@ fn holder<'a, R: Wait + AllocGlobal>(
     Some(holder)
 }
 
-// Whether a fetch by this handle gives up after so many turns, while another task holds the cell of its key.
-fn gives_up_beside_a_holder<R: Wait + RandomSource + AllocGlobal + Clock>(
+// How a caller ends that asks by this handle for a key within so many turns, while another task holds its cell.
+fn end_beside<R: Wait + RandomSource + AllocGlobal + Clock>(
     rt: &R,
     by: &Watched<'_, R>,
     memo: &Memo<u64>,
-    fetch: Fetch<'_>,
     turns: u64,
-) -> Result<bool, Fault> {
-    let (task, cell) = (MockTask::new(rt)?, memo.cell(1).ok_or(Fault::NoKey(1))?);
+) -> Result<&'static str, Fault> {
+    let (task, fetches) = (MockTask::new(rt)?, AtomicU64::new(0));
     let holder = holder(rt, memo, 1, &task).ok_or(Fault::NoKey(1))?;
-    let answer = within(by, cell, fetch, turns)?;
+    let answer = ask(by, memo, &fetches, 1, turns);
     drop(holder);
-    Ok(answer.is_none())
+    Ok(match answer {
+        Err(Fault::Refused(Refused::Memory)) => "refused",
+        Err(Fault::Io(_)) => "no task",
+        Err(Fault::Turns) => "all turns",
+        _ => "otherwise",
+    })
 }
 
 /// A future that is Pending at each of its turns makes a pause after each, and then gives up. It has just the turns
@@ -201,31 +198,23 @@ fn gives_up_beside_a_holder<R: Wait + RandomSource + AllocGlobal + Clock>(
 fn turns_are_used_up(rt: HostRuntime) -> Result<(), Fail> {
     let (memo, fetches) = (table(rt.alloc(), &KEYS)?, AtomicU64::new(0));
     for turns in [0, 1, 3, 40] {
-        let (by, fetch) = (Watched::new(&rt), Fetch::new(1, &fetches));
-        let gives_up = gives_up_beside_a_holder(&rt, &by, &memo, fetch, turns)?;
-        assert_eq!(rt; (gives_up, by.pauses()), (true, turns));
+        let by = Watched::new(&rt);
+        let end = end_beside(&rt, &by, &memo, turns)?;
+        same(
+            &rt,
+            "the end, and the pauses",
+            (end, by.pauses()),
+            ("all turns", turns),
+        );
     }
     let told = value_told(&rt, &memo, &fetches, 1);
-    assert_eq!(rt; (told, fetches.load(Ordering::SeqCst)), (Some(10), 1));
+    same(
+        &rt,
+        "the next, and the fetches",
+        (told, fetches.load(Ordering::SeqCst)),
+        (Some(10), 1),
+    );
     Ok(())
-}
-
-// How a fetch ends that has no memory from the request on that comes after so many. A task holds the cell meanwhile.
-fn end_without_memory<R: Wait + RandomSource + AllocGlobal + Clock>(
-    rt: &R,
-    before: u64,
-) -> Result<&'static str, Fault> {
-    let (task, memo) = (MockTask::new(rt)?, table(rt.alloc(), &KEYS)?);
-    let holder = holder(rt, &memo, 1, &task).ok_or(Fault::NoKey(1))?;
-    let (by, fetches) = (Watched::starving(rt, before), AtomicU64::new(0));
-    let answer = ask(&by, &memo, &fetches, 1, 1);
-    drop(holder);
-    Ok(match (answer, by.has_starved()) {
-        (Err(Fault::Refused(Refused::Memory)), true) => "refused",
-        (Err(Fault::Io(_)), true) => "no task",
-        (Err(Fault::Turns), false) => "all turns",
-        _ => "otherwise",
-    })
 }
 
 /// A poll that is refused memory is told as refused, and not as one that had too few turns.
@@ -233,33 +222,19 @@ fn end_without_memory<R: Wait + RandomSource + AllocGlobal + Clock>(
 fn a_refused_poll_is_told(rt: HostRuntime) -> Result<(), Fail> {
     let mut was_refused = false;
     for before in 0..10 {
-        let end = end_without_memory(&rt, before)?;
-        assert!(rt; end != "otherwise", "after {before} requests");
+        let memo = table(rt.alloc(), &KEYS)?;
+        let by = Watched::starving(&rt, before);
+        let end = end_beside(&rt, &by, &memo, 1)?;
+        let is_told = by.has_starved() == (end == "refused" || end == "no task");
+        let seen = (before, is_told, end == "otherwise");
+        same(
+            &rt,
+            "requests before, whether it is told so",
+            seen,
+            (before, true, false),
+        );
         was_refused |= end == "refused";
     }
-    assert!(rt; was_refused);
-    Ok(())
-}
-
-fn answers(alloc: Global, value: u64) -> Result<Vec<Answer>, AllocError> {
-    Ok(vec![in alloc; Answer { key: 1, value }]?)
-}
-
-// How two threads end that were told these values.
-fn agreement(alloc: Global, first: u64, second: u64) -> Result<String, AllocError> {
-    let ended = agreed(answers(alloc, first)?, answers(alloc, second)?);
-    format!(in alloc; "{ended:?}")
-}
-
-/// Threads that were told different values are a fault.
-#[test]
-fn answers_that_differ(rt: HostRuntime) -> Result<(), Fail> {
-    for (value, wanted) in [
-        (10, "Ok([Answer { key: 1, value: 10 }])"),
-        (11, "Err(Differ)"),
-    ] {
-        let ended = agreement(rt.alloc(), 10, value)?;
-        assert_eq!(rt; ended.as_str(), wanted);
-    }
+    same(&rt, "whether a poll was refused", was_refused, true);
     Ok(())
 }

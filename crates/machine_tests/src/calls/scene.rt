@@ -6,14 +6,15 @@
 //! |---|---|
 //! | `make T A` | a task of the name T, whose init answers A: `p` is Pending, `v` the name of the task, `e` an error |
 //! | `make T over U` | a task of the name T, whose side has the task U for its own |
-//! | `polls T`, `leaves T` | from now on, T's side polls U whenever its init is polled, its waker is copied or it wakes others; or drops U when its waker is copied |
-//! | `poll T A`, `drop T` | a whole call of T; the init answers A from now on. `poll T A x` refuses the copy of a waker |
+//! | `polls T` | from now on T's side polls U if its init is polled, if its waker is copied and if it wakes others |
+//! | `leaves T` | from now on T's side drops U if its waker is copied |
+//! | `poll T A` | a poll, in which the init answers A; with ` x` behind it, the copy of a waker is refused |
+//! | `drop T` | a drop |
 //! | `starve T` | a poll of T while all memory is taken |
+//! | `other` | how the last call of U ended that T made, and the notes of U's side, are told |
 //! | `show` | the word is told, and whether a queue stands at the door |
 //!
-//! After `=>` stands how the last call ended, `Ok` with the value, and the notes of the task's side since the line
-//! before. If the side has a task of its own, how the last call of that task ended, and the notes of its side, stand
-//! behind that.
+//! After `=>` stands how the last call ended, `Ok` with the value, and the notes of the task's side since its last call.
 
 use super::caller::Caller;
 use super::meddler::{Act, Meddler};
@@ -55,6 +56,7 @@ impl<R: Wait + AllocGlobal + RandomSource> Plays for Scene<'_, '_, R> {
             "poll" => self.poll(name, answer_in(how), !how.ends_with(" x")),
             "drop" => self.leave(name),
             "starve" => self.starve(name),
+            "other" => self.other(),
             "show" => Ok(Some(format!(in alloc; "{:?}", self.cell)?)),
             _ => Ok(None),
         }
@@ -112,7 +114,7 @@ impl<R: Wait + AllocGlobal + RandomSource> Scene<'_, '_, R> {
         }
         meddler.answers(answer, is_granted);
         let ended = meddler.polled();
-        told_of_both(alloc, ended, meddler)
+        told(alloc, ended, meddler.take())
     }
 
     fn leave(&mut self, name: u64) -> io::Result<Option<String>> {
@@ -124,10 +126,19 @@ impl<R: Wait + AllocGlobal + RandomSource> Scene<'_, '_, R> {
         match &mut self.meddler {
             Some(meddler) if meddler.name() == name => {
                 let ended = meddler.left();
-                told_of_both(alloc, ended, meddler)
+                told(alloc, ended, meddler.take())
             }
             _ => Ok(None),
         }
+    }
+
+    fn other(&mut self) -> io::Result<Option<String>> {
+        let alloc = self.rt.alloc();
+        let Some(meddler) = &mut self.meddler else {
+            return Ok(None);
+        };
+        let (heard, notes) = (meddler.heard(), meddler.take_others());
+        Ok(Some(format!(in alloc; "{heard:?} {notes:?}")?))
     }
 
     fn starve(&mut self, name: u64) -> io::Result<Option<String>> {
@@ -151,21 +162,6 @@ fn told(
     match (ended, notes) {
         (Some(ended), Some(notes)) => Ok(Some(format!(in alloc; "{ended:?} {notes:?}")?)),
         _ => Ok(None),
-    }
-}
-
-fn told_of_both<R: Wait + AllocGlobal>(
-    alloc: Global,
-    ended: Option<Result<u64, Ending>>,
-    meddler: &mut Meddler<'_, '_, R>,
-) -> io::Result<Option<String>> {
-    let (notes, heard) = (meddler.take(), meddler.heard());
-    let Some(others) = meddler.take_others() else {
-        return Ok(None);
-    };
-    match told(alloc, ended, notes)? {
-        Some(told) => Ok(Some(format!(in alloc; "{told} {heard:?} {others:?}")?)),
-        None => Ok(None),
     }
 }
 

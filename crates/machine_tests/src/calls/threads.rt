@@ -3,7 +3,7 @@ ghost use Rattle.std.specs.Prelude.{◌<◌};
 
 use super::caller::Caller;
 use crate::bell::Cell;
-use crate::doubles::same::same;
+use crate::same::same;
 use once_machine::step::{Ending, Polled};
 use std::alloc::{AllocError, AllocGlobal, Global};
 use std::random::RandomSource;

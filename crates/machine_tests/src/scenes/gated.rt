@@ -20,7 +20,7 @@ poll 1 1; run 1 p
 poll 2 2; run 2 p => Some(Pending) [Copied(Some(2))] rests
 show => Inner { ready: false, quick_init: true, refcount: 1, queue: true }
 poll 1 1
-run 1 v4 x => Some(Value) [Ran(Value), Closed, Put, Woke(All([Listing { ticket: 0, waker: Some(2) }]))] finished
+run 1 v4 x => Some(Value) [Ran(Value), Closed, Put, WokeAll([(0, Some(2))])] finished
 show => Inner { ready: true, quick_init: false, refcount: 1, queue: true }
 ";
 
@@ -59,7 +59,7 @@ poll 1 1; run 1 p x => Some(Pending) [Ran(Pending)] rests
 show => Inner { ready: false, quick_init: true, refcount: 0, queue: false }
 poll 2 2; run 2 p
 poll 1 1
-run 1 v4 x => Some(Value) [Ran(Value), Closed, Put, Woke(All([Listing { ticket: 0, waker: Some(2) }]))] finished
+run 1 v4 x => Some(Value) [Ran(Value), Closed, Put, WokeAll([(0, Some(2))])] finished
 show => Inner { ready: true, quick_init: false, refcount: 1, queue: true }
 
 # quick_error: a quick holder fails, and calls the one who waits
@@ -67,7 +67,7 @@ make 1; make 2
 poll 1 1; run 1 p x => Some(Pending) [Ran(Pending)] rests
 show => Inner { ready: false, quick_init: true, refcount: 0, queue: false }
 poll 2 2; run 2 p
-poll 1 1; run 1 e9 x => Some(Error) [Ran(Error), Closed, Woke(One(Some(2)))] finished
+poll 1 1; run 1 e9 x => Some(Error) [Ran(Error), Closed, WokeOne(Some(2))] finished
 show => Inner { ready: false, quick_init: false, refcount: 1, queue: true }
 
 # quick_drop: a quick holder is dropped, and calls the one who waits
@@ -76,7 +76,7 @@ poll 1 1; run 1 p x => Some(Pending) [Ran(Pending)] rests
 show => Inner { ready: false, quick_init: true, refcount: 0, queue: false }
 poll 2 2; run 2 p
 drop 1 => None [Closed] goes on
-run 1 p x => Some(Dropped) [Woke(One(Some(2)))] finished
+run 1 p x => Some(Dropped) [WokeOne(Some(2))] finished
 show => Inner { ready: false, quick_init: false, refcount: 1, queue: true }
 ";
 
@@ -99,10 +99,10 @@ poll 3 3; run 3 p
 poll 3 3; run 3 p x => Some(Pending) [] rests
 show => Inner { ready: false, quick_init: false, refcount: 2, queue: true }
 poll 2 2
-run 2 v4 x => Some(Value) [Ran(Value), Closed, Put, Woke(All([Listing { ticket: 0, waker: Some(3) }]))] finished
+run 2 v4 x => Some(Value) [Ran(Value), Closed, Put, WokeAll([(0, Some(3))])] finished
 show => Inner { ready: true, quick_init: false, refcount: 1, queue: true }
 drop 3 => None [Closed] goes on
-run 3 p x => Some(Dropped) [Woke(One(None))] finished
+run 3 p x => Some(Dropped) [WokeOne(None)] finished
 show => Inner { ready: true, quick_init: false, refcount: 0, queue: false }
 
 # later_error: a later holder fails, and calls the one who waits
@@ -115,10 +115,10 @@ show => Inner { ready: false, quick_init: false, refcount: 1, queue: true }
 poll 3 3; run 3 p
 poll 3 3; run 3 p x => Some(Pending) [] rests
 show => Inner { ready: false, quick_init: false, refcount: 2, queue: true }
-poll 2 2; run 2 e9 x => Some(Error) [Ran(Error), Closed, Woke(One(Some(3)))] finished
+poll 2 2; run 2 e9 x => Some(Error) [Ran(Error), Closed, WokeOne(Some(3))] finished
 show => Inner { ready: false, quick_init: false, refcount: 1, queue: true }
 drop 3 => None [Closed] goes on
-run 3 p x => Some(Dropped) [Woke(One(None))] finished
+run 3 p x => Some(Dropped) [WokeOne(None)] finished
 show => Inner { ready: false, quick_init: false, refcount: 0, queue: true }
 
 # later_drop: a later holder is dropped, and calls the one who waits
@@ -132,10 +132,10 @@ poll 3 3; run 3 p
 poll 3 3; run 3 p x => Some(Pending) [] rests
 show => Inner { ready: false, quick_init: false, refcount: 2, queue: true }
 drop 2 => None [Closed] goes on
-run 2 p x => Some(Dropped) [Woke(One(Some(3)))] finished
+run 2 p x => Some(Dropped) [WokeOne(Some(3))] finished
 show => Inner { ready: false, quick_init: false, refcount: 1, queue: true }
 drop 3 => None [Closed] goes on
-run 3 p x => Some(Dropped) [Woke(One(None))] finished
+run 3 p x => Some(Dropped) [WokeOne(None)] finished
 show => Inner { ready: false, quick_init: false, refcount: 0, queue: true }
 ";
 

@@ -21,7 +21,7 @@ show => Inner { ready: false, quick_init: true, refcount: 1, queue: true }
 poll 2 2; run 2 e9 => Some(Pending) [] rests
 show => Inner { ready: false, quick_init: true, refcount: 1, queue: true }
 poll 1 1
-run 1 v2 => Some(Value) [Ran(Value), Closed, Put, Woke(All([Listing { ticket: 0, waker: Some(2) }]))] finished
+run 1 v2 => Some(Value) [Ran(Value), Closed, Put, WokeAll([(0, Some(2))])] finished
 show => Inner { ready: true, quick_init: false, refcount: 1, queue: true }
 poll 2 2; run 2 e9 => Some(Value) [Closed] finished
 show => Inner { ready: true, quick_init: false, refcount: 0, queue: false }
@@ -39,12 +39,12 @@ make 1; make 2; make 3
 poll 1 1; run 1 p
 poll 2 2; run 2 p
 drop 2 => None [Closed] goes on
-run 2 p => Some(Dropped) [Woke(One(None))] finished
+run 2 p => Some(Dropped) [WokeOne(None)] finished
 poll 3 3
 go 3 p => None [] goes on
 poll 1 1; run 1 e5 => Some(Error) [Ran(Error), Closed] finished
 show => Inner { ready: false, quick_init: false, refcount: 0, queue: true }
-run 3 v6 => Some(Value) [Ran(Value), Closed, Put, Woke(All([]))] finished
+run 3 v6 => Some(Value) [Ran(Value), Closed, Put, WokeAll([])] finished
 show => Inner { ready: true, quick_init: false, refcount: 0, queue: false }
 
 # queue_put_too_late: a task puts a queue when the holder has filled the cell and is gone, and takes the queue out
@@ -68,9 +68,9 @@ poll 2 2; go 2 p
 run 1 p => Some(Pending) [Ran(Pending)] rests
 run 2 p => Some(Pending) [Copied(Some(2))] rests
 drop 1 => None [Closed] goes on
-run 1 p => Some(Dropped) [Woke(One(Some(2)))] finished
+run 1 p => Some(Dropped) [WokeOne(Some(2))] finished
 show => Inner { ready: false, quick_init: false, refcount: 1, queue: true }
-poll 2 2; run 2 v3 => Some(Value) [Ran(Value), Closed, Put, Woke(All([]))] finished
+poll 2 2; run 2 v3 => Some(Value) [Ran(Value), Closed, Put, WokeAll([])] finished
 show => Inner { ready: true, quick_init: false, refcount: 0, queue: false }
 
 # waker_copy_refused: a task is counted in and finds a holder, and its waker can't be copied

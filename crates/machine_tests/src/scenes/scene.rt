@@ -1,9 +1,9 @@
 //! Scenes of a cell and its tasks over shared parts, where a copy of a waker may be refused.
 //!
-//! A line of a scene (`crate::plays`) is a line of a script, of an empty once cell. `x` refuses the copy of a waker, and
-//! no other memory. The waker of a task has its number. After `=>` stands what the last step came to: how the call
-//! ended, or None; the notes of its side since the line before; and where its task then stands. `show` tells the word,
-//! and whether a queue stands at the door.
+//! A line of a scene (`crate::plays`) is a line of a script, of an empty once cell. `x` refuses the copy of a waker,
+//! and no other memory. The waker of a task has its number. After `=>` stands what the last step came to: how the
+//! call ended, or None; the notes of its side since the line before; and where its task then stands. `show` tells the
+//! word, and whether a queue stands at the door.
 
 use super::walker::Walker;
 use crate::bell::Cell;

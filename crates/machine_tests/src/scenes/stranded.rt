@@ -12,9 +12,9 @@ poll 1 1; run 1 p
 poll 2 2; run 2 p x => Some(Memory) [Copied(None), Closed] finished
 show => Inner { ready: false, quick_init: true, refcount: 0, queue: true }
 poll 3 3; run 3 p
-poll 1 1; run 1 e9 x => Some(Error) [Ran(Error), Closed, Woke(One(Some(3)))] finished
+poll 1 1; run 1 e9 x => Some(Error) [Ran(Error), Closed, WokeOne(Some(3))] finished
 show => Inner { ready: false, quick_init: false, refcount: 1, queue: true }
-poll 3 3; run 3 v4 x => Some(Value) [Ran(Value), Closed, Put, Woke(All([]))] finished
+poll 3 3; run 3 v4 x => Some(Value) [Ran(Value), Closed, Put, WokeAll([])] finished
 show => Inner { ready: true, quick_init: false, refcount: 0, queue: false }
 ";
 
@@ -25,17 +25,64 @@ fn refused_before_it_was_listed(rt: HostRuntime) -> Result<(), Fail> {
 
 // The same if the one behind it is listed while the poll that is refused is under way.
 const BESIDE: &str = "\
-# refused_beside_one_who_waits: the third is listed while the poll of the second is under way
+# refused_beside_one_who_waits_1: the third is listed while the poll of the second is under way
 make 1; make 2; make 3
 poll 1 1; run 1 p
-poll 2 2
-1 to 5 * go 2 p
+poll 2 2; go 2 p
 poll 3 3; run 3 p
 run 2 p x => Some(Memory) [Copied(None), Closed] finished
 show => Inner { ready: false, quick_init: true, refcount: 1, queue: true }
-poll 1 1; run 1 e9 x => Some(Error) [Ran(Error), Closed, Woke(One(Some(3)))] finished
+poll 1 1; run 1 e9 x => Some(Error) [Ran(Error), Closed, WokeOne(Some(3))] finished
 show => Inner { ready: false, quick_init: false, refcount: 1, queue: true }
-poll 3 3; run 3 v4 x => Some(Value) [Ran(Value), Closed, Put, Woke(All([]))] finished
+poll 3 3; run 3 v4 x => Some(Value) [Ran(Value), Closed, Put, WokeAll([])] finished
+show => Inner { ready: true, quick_init: false, refcount: 0, queue: false }
+
+# refused_beside_one_who_waits_2: the third is listed while the poll of the second is under way
+make 1; make 2; make 3
+poll 1 1; run 1 p
+poll 2 2; go 2 p; go 2 p
+poll 3 3; run 3 p
+run 2 p x => Some(Memory) [Copied(None), Closed] finished
+show => Inner { ready: false, quick_init: true, refcount: 1, queue: true }
+poll 1 1; run 1 e9 x => Some(Error) [Ran(Error), Closed, WokeOne(Some(3))] finished
+show => Inner { ready: false, quick_init: false, refcount: 1, queue: true }
+poll 3 3; run 3 v4 x => Some(Value) [Ran(Value), Closed, Put, WokeAll([])] finished
+show => Inner { ready: true, quick_init: false, refcount: 0, queue: false }
+
+# refused_beside_one_who_waits_3: the third is listed while the poll of the second is under way
+make 1; make 2; make 3
+poll 1 1; run 1 p
+poll 2 2; go 2 p; go 2 p; go 2 p
+poll 3 3; run 3 p
+run 2 p x => Some(Memory) [Copied(None), Closed] finished
+show => Inner { ready: false, quick_init: true, refcount: 1, queue: true }
+poll 1 1; run 1 e9 x => Some(Error) [Ran(Error), Closed, WokeOne(Some(3))] finished
+show => Inner { ready: false, quick_init: false, refcount: 1, queue: true }
+poll 3 3; run 3 v4 x => Some(Value) [Ran(Value), Closed, Put, WokeAll([])] finished
+show => Inner { ready: true, quick_init: false, refcount: 0, queue: false }
+
+# refused_beside_one_who_waits_4: the third is listed while the poll of the second is under way
+make 1; make 2; make 3
+poll 1 1; run 1 p
+poll 2 2; go 2 p; go 2 p; go 2 p; go 2 p
+poll 3 3; run 3 p
+run 2 p x => Some(Memory) [Copied(None), Closed] finished
+show => Inner { ready: false, quick_init: true, refcount: 1, queue: true }
+poll 1 1; run 1 e9 x => Some(Error) [Ran(Error), Closed, WokeOne(Some(3))] finished
+show => Inner { ready: false, quick_init: false, refcount: 1, queue: true }
+poll 3 3; run 3 v4 x => Some(Value) [Ran(Value), Closed, Put, WokeAll([])] finished
+show => Inner { ready: true, quick_init: false, refcount: 0, queue: false }
+
+# refused_beside_one_who_waits_5: the third is listed while the poll of the second is under way
+make 1; make 2; make 3
+poll 1 1; run 1 p
+poll 2 2; go 2 p; go 2 p; go 2 p; go 2 p; go 2 p
+poll 3 3; run 3 p
+run 2 p x => Some(Memory) [Copied(None), Closed] finished
+show => Inner { ready: false, quick_init: true, refcount: 1, queue: true }
+poll 1 1; run 1 e9 x => Some(Error) [Ran(Error), Closed, WokeOne(Some(3))] finished
+show => Inner { ready: false, quick_init: false, refcount: 1, queue: true }
+poll 3 3; run 3 v4 x => Some(Value) [Ran(Value), Closed, Put, WokeAll([])] finished
 show => Inner { ready: true, quick_init: false, refcount: 0, queue: false }
 ";
 
@@ -49,7 +96,7 @@ fn refused_beside_one_who_waits(rt: HostRuntime) -> Result<(), Fail> {
 // Polled after that, it gets the right, and is dropped; refused after that, it passes its turn on to the fourth; and
 // if it left before, the turn is the third's alone.
 const CALLED: &str = "\
-# fails_before_a_refusal: the second finds that nobody holds, gets the right, and is dropped
+# fails_before_a_refusal_0: the second finds that nobody holds, gets the right, and is dropped
 make 1; make 2; make 3; make 4; make 5
 poll 1 1; run 1 p
 poll 2 2; run 2 p
@@ -58,15 +105,33 @@ poll 4 4; run 4 p
 poll 1 1; run 1 e9
 poll 5 5; run 5 p
 poll 2 2
-0 to 1 * go 2 p x
-poll 5 5; run 5 e9 x => Some(Error) [Ran(Error), Closed, Woke(One(Some(3)))] finished
+poll 5 5; run 5 e9 x => Some(Error) [Ran(Error), Closed, WokeOne(Some(3))] finished
 show => Inner { ready: false, quick_init: false, refcount: 3, queue: true }
 run 2 p x => Some(Pending) [Ran(Pending)] rests
 show => Inner { ready: false, quick_init: false, refcount: 3, queue: true }
 drop 2 => None [Closed] goes on
-run 2 p x => Some(Dropped) [Woke(One(Some(4)))] finished
+run 2 p x => Some(Dropped) [WokeOne(Some(4))] finished
 show => Inner { ready: false, quick_init: false, refcount: 2, queue: true }
-poll 3 3; run 3 v4 x => Some(Value) [Ran(Value), Closed, Put, Woke(All([Listing { ticket: 2, waker: None }]))] finished
+poll 3 3; run 3 v4 x => Some(Value) [Ran(Value), Closed, Put, WokeAll([(2, None)])] finished
+show => Inner { ready: true, quick_init: false, refcount: 1, queue: true }
+
+# fails_before_a_refusal_1: the second finds that nobody holds, gets the right, and is dropped
+make 1; make 2; make 3; make 4; make 5
+poll 1 1; run 1 p
+poll 2 2; run 2 p
+poll 3 3; run 3 p
+poll 4 4; run 4 p
+poll 1 1; run 1 e9
+poll 5 5; run 5 p
+poll 2 2; go 2 p x
+poll 5 5; run 5 e9 x => Some(Error) [Ran(Error), Closed, WokeOne(Some(3))] finished
+show => Inner { ready: false, quick_init: false, refcount: 3, queue: true }
+run 2 p x => Some(Pending) [Ran(Pending)] rests
+show => Inner { ready: false, quick_init: false, refcount: 3, queue: true }
+drop 2 => None [Closed] goes on
+run 2 p x => Some(Dropped) [WokeOne(Some(4))] finished
+show => Inner { ready: false, quick_init: false, refcount: 2, queue: true }
+poll 3 3; run 3 v4 x => Some(Value) [Ran(Value), Closed, Put, WokeAll([(2, None)])] finished
 show => Inner { ready: true, quick_init: false, refcount: 1, queue: true }
 
 # fails_after_a_refusal: the second was refused before the fifth fails, and passes its turn on
@@ -77,14 +142,12 @@ poll 3 3; run 3 p
 poll 4 4; run 4 p
 poll 1 1; run 1 e9
 poll 5 5; run 5 p
-poll 2 2
-go 2 p x
-go 2 p x
-poll 5 5; run 5 e9 x => Some(Error) [Ran(Error), Closed, Woke(One(Some(3)))] finished
+poll 2 2; go 2 p x; go 2 p x
+poll 5 5; run 5 e9 x => Some(Error) [Ran(Error), Closed, WokeOne(Some(3))] finished
 show => Inner { ready: false, quick_init: false, refcount: 3, queue: true }
-run 2 p x => Some(Memory) [Woke(One(Some(4)))] finished
+run 2 p x => Some(Memory) [WokeOne(Some(4))] finished
 show => Inner { ready: false, quick_init: false, refcount: 2, queue: true }
-poll 3 3; run 3 v4 x => Some(Value) [Ran(Value), Closed, Put, Woke(All([Listing { ticket: 2, waker: None }]))] finished
+poll 3 3; run 3 v4 x => Some(Value) [Ran(Value), Closed, Put, WokeAll([(2, None)])] finished
 show => Inner { ready: true, quick_init: false, refcount: 1, queue: true }
 
 # fails_after_a_leave: the second left before the fifth fails, which calls the third
@@ -95,16 +158,13 @@ poll 3 3; run 3 p
 poll 4 4; run 4 p
 poll 1 1; run 1 e9
 poll 5 5; run 5 p
-poll 2 2
-go 2 p x
-go 2 p x
-go 2 p x
-poll 5 5; run 5 e9 x => Some(Error) [Ran(Error), Closed, Woke(One(Some(3)))] finished
+poll 2 2; go 2 p x; go 2 p x; go 2 p x
+poll 5 5; run 5 e9 x => Some(Error) [Ran(Error), Closed, WokeOne(Some(3))] finished
 show => Inner { ready: false, quick_init: false, refcount: 3, queue: true }
 run 2 p x => Some(Memory) [] finished
 show => Inner { ready: false, quick_init: false, refcount: 2, queue: true }
 poll 3 3
-run 3 v4 x => Some(Value) [Ran(Value), Closed, Put, Woke(All([Listing { ticket: 2, waker: Some(4) }]))] finished
+run 3 v4 x => Some(Value) [Ran(Value), Closed, Put, WokeAll([(2, Some(4))])] finished
 show => Inner { ready: true, quick_init: false, refcount: 1, queue: true }
 
 # fails_after_a_poll: the poll of the second is over before the fifth fails, which calls the third
@@ -115,17 +175,13 @@ poll 3 3; run 3 p
 poll 4 4; run 4 p
 poll 1 1; run 1 e9
 poll 5 5; run 5 p
-poll 2 2
-go 2 p x
-go 2 p x
-go 2 p x
-go 2 p x
-poll 5 5; run 5 e9 x => Some(Error) [Ran(Error), Closed, Woke(One(Some(3)))] finished
+poll 2 2; go 2 p x; go 2 p x; go 2 p x; go 2 p x
+poll 5 5; run 5 e9 x => Some(Error) [Ran(Error), Closed, WokeOne(Some(3))] finished
 show => Inner { ready: false, quick_init: false, refcount: 2, queue: true }
 run 2 p x => None [] finished
 show => Inner { ready: false, quick_init: false, refcount: 2, queue: true }
 poll 3 3
-run 3 v4 x => Some(Value) [Ran(Value), Closed, Put, Woke(All([Listing { ticket: 2, waker: Some(4) }]))] finished
+run 3 v4 x => Some(Value) [Ran(Value), Closed, Put, WokeAll([(2, Some(4))])] finished
 show => Inner { ready: true, quick_init: false, refcount: 1, queue: true }
 ";
 
@@ -143,11 +199,11 @@ poll 1 1; run 1 p
 poll 2 2; run 2 p
 poll 3 3; run 3 p
 drop 2
-poll 1 1; run 1 e9 x => Some(Error) [Ran(Error), Closed, Woke(One(Some(2)))] finished
+poll 1 1; run 1 e9 x => Some(Error) [Ran(Error), Closed, WokeOne(Some(2))] finished
 show => Inner { ready: false, quick_init: false, refcount: 2, queue: true }
-run 2 p x => Some(Dropped) [Woke(One(Some(3)))] finished
+run 2 p x => Some(Dropped) [WokeOne(Some(3))] finished
 show => Inner { ready: false, quick_init: false, refcount: 1, queue: true }
-poll 3 3; run 3 v4 x => Some(Value) [Ran(Value), Closed, Put, Woke(All([]))] finished
+poll 3 3; run 3 v4 x => Some(Value) [Ran(Value), Closed, Put, WokeAll([])] finished
 show => Inner { ready: true, quick_init: false, refcount: 0, queue: false }
 
 # fails_beside_a_drop: the second took its listing out, and the third is called
@@ -157,11 +213,11 @@ poll 2 2; run 2 p
 poll 3 3; run 3 p
 drop 2
 go 2 p x
-poll 1 1; run 1 e9 x => Some(Error) [Ran(Error), Closed, Woke(One(Some(3)))] finished
+poll 1 1; run 1 e9 x => Some(Error) [Ran(Error), Closed, WokeOne(Some(3))] finished
 show => Inner { ready: false, quick_init: false, refcount: 2, queue: true }
 run 2 p x => Some(Dropped) [] finished
 show => Inner { ready: false, quick_init: false, refcount: 1, queue: true }
-poll 3 3; run 3 v4 x => Some(Value) [Ran(Value), Closed, Put, Woke(All([]))] finished
+poll 3 3; run 3 v4 x => Some(Value) [Ran(Value), Closed, Put, WokeAll([])] finished
 show => Inner { ready: true, quick_init: false, refcount: 0, queue: false }
 
 # fails_after_a_drop: the drop of the second is over, and the third is called
@@ -170,13 +226,12 @@ poll 1 1; run 1 p
 poll 2 2; run 2 p
 poll 3 3; run 3 p
 drop 2
-go 2 p x
-go 2 p x
-poll 1 1; run 1 e9 x => Some(Error) [Ran(Error), Closed, Woke(One(Some(3)))] finished
+go 2 p x; go 2 p x
+poll 1 1; run 1 e9 x => Some(Error) [Ran(Error), Closed, WokeOne(Some(3))] finished
 show => Inner { ready: false, quick_init: false, refcount: 1, queue: true }
 run 2 p x => None [] finished
 show => Inner { ready: false, quick_init: false, refcount: 1, queue: true }
-poll 3 3; run 3 v4 x => Some(Value) [Ran(Value), Closed, Put, Woke(All([]))] finished
+poll 3 3; run 3 v4 x => Some(Value) [Ran(Value), Closed, Put, WokeAll([])] finished
 show => Inner { ready: true, quick_init: false, refcount: 0, queue: false }
 ";
 

@@ -28,10 +28,11 @@ impl Errors {
 
 impl Eprint for Errors {
     fn eprint<D: Display + Drop>(&self, value: D) -> io::Result<()> {
-        let text = match self.told.take() {
-            None => format!(in self.alloc; "{value}")?,
-            Some(before) => format!(in self.alloc; "{before}{value}")?,
+        let mut text = match self.told.take() {
+            Some(before) => before,
+            None => String::new(self.alloc),
         };
+        write!(text, "{value}")?;
         self.told.set(Some(text));
         Ok(())
     }

@@ -2,6 +2,7 @@
 ghost use Rattle.std.specs.Prelude.{IsSome};
 ghost use Rattle.memo.specs.Memo.{cell_of};
 
+use super::same;
 use crate::fault::Fault;
 use crate::fetch::Fetch;
 use crate::table::Memo;
@@ -88,20 +89,36 @@ where
 #[test]
 fn fetches_and_tokens(rt: HostRuntime) -> Result<(), Fail> {
     let seen = (fetched(&rt)?, tokens(rt.alloc())?);
-    assert_eq!(rt; seen, ((10, 10), (true, false)));
+    same(
+        &rt,
+        "two fetches, and the tokens of two keys",
+        seen,
+        ((10, 10), (true, false)),
+    );
     Ok(())
 }
 
 /// A token and a look find the value once it was fetched.
 #[test]
 fn looks_before_and_after(rt: HostRuntime) -> Result<(), Fail> {
-    assert_eq!(rt; learned_and_looked(&rt)?, (None, Some(70), Some(70)));
+    let seen = learned_and_looked(&rt)?;
+    same(
+        &rt,
+        "before a fetch, after it, at a look",
+        seen,
+        (None, Some(70), Some(70)),
+    );
     Ok(())
 }
 
 /// A fetch gives ten times its key at its first poll, and counts itself.
 #[test]
 fn a_fetch_by_hand(rt: HostRuntime) -> Result<(), Fail> {
-    assert_eq!(rt; polled(&rt)?, (Poll::Ready(30), 1));
+    same(
+        &rt,
+        "a poll, and the fetches",
+        polled(&rt)?,
+        (Poll::Ready(30), 1),
+    );
     Ok(())
 }

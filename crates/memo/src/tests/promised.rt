@@ -3,6 +3,7 @@
 ghost use Rattle.std.specs.Prelude.{◌≡◌, ◌*◌, ◌^◌, ◌<◌, [], ◌∷◌, true, IfOk, IfSome};
 ghost use Rattle.async_once_cell.specs.Views.{about_of, is_shared};
 
+use super::same;
 use crate::ask::{TURNS, ask};
 use crate::fault::Fault;
 use crate::fetch::{Fetch, TenTimes};
@@ -115,7 +116,13 @@ fn values_of_keys(rt: HostRuntime) -> Result<(), Fail> {
     let keys = Vec::from_array(rt.alloc(), KEYS)?;
     let memo = Memo::<u64, TenTimes>::promised(rt.alloc(), keys)?;
     let (values, fetches) = told_in_turn(&rt, &memo)?;
-    assert_eq!(rt; (values.as_slice(), fetches), ([70, 50, 70].as_slice(), 2));
+    let wanted = ([70, 50, 70].as_slice(), 2);
+    same(
+        &rt,
+        "the values in turn, and the fetches",
+        (values.as_slice(), fetches),
+        wanted,
+    );
     Ok(())
 }
 
@@ -125,13 +132,23 @@ fn a_look_beside_a_fetch(rt: HostRuntime) -> Result<(), Fail> {
     let keys = Vec::from_array(rt.alloc(), KEYS)?;
     let memo = Memo::<u64, TenTimes>::promised(rt.alloc(), keys)?;
     let (told, seen) = told_and_looked(&rt, &memo, &AtomicU64::new(0), 7);
-    assert_eq!(rt; (told?, seen.unwrap_or(70)), (70, 70));
+    same(
+        &rt,
+        "what is told, and what is seen",
+        (told?, seen.unwrap_or(70)),
+        (70, 70),
+    );
     Ok(())
 }
 
 /// The owner of a cell takes the value that was fetched, each time.
 #[test]
 fn values_of_an_owner(rt: HostRuntime) -> Result<(), Fail> {
-    assert_eq!(rt; taken_twice(&rt, 7)?, (Some(70), Some(70)));
+    same(
+        &rt,
+        "taken twice",
+        taken_twice(&rt, 7)?,
+        (Some(70), Some(70)),
+    );
     Ok(())
 }

@@ -2,7 +2,7 @@
 
 use super::errors::Errors;
 use super::watched::Watched;
-use super::{holder, table};
+use super::{holder, same, table};
 use crate::ask::KEYS;
 use crate::fault::Fault;
 use crate::{run, show, status};
@@ -22,34 +22,11 @@ const TEXT: &str = "1 10\n2 20\n3 30\nfetches 3\n";
 
 const TURNS_USED_UP: &str = "a cell has no value after all turns\n";
 
+const NO_MEMORY: &str = "out of memory\n";
+
+const REFUSED: &str = "a poll was refused: out of memory\n";
+
 const NO_THREAD: &str = "a thread could not be started\n";
-
-// What a run may say that was refused memory.
-const REFUSED: [&str; 3] = [
-    "out of memory\n",
-    "a poll was refused: out of memory\n",
-    NO_THREAD,
-];
-
-// A run that is over, and what it had printed.
-#[derive(Drop)]
-struct Ended {
-    how: Result<(), Fault>,
-    printed: Vec<u8>,
-}
-
-impl Ended {
-    // Its status, and what it says on standard error.
-    fn told(self, alloc: Global) -> Told {
-        let Ended { how, printed } = self;
-        let errors = Errors::new(alloc);
-        Told {
-            status: status(&errors, how),
-            said: errors.told(),
-            printed,
-        }
-    }
-}
 
 // What a caller of the program sees of a run.
 #[derive(Drop)]
@@ -59,58 +36,75 @@ struct Told {
     printed: Vec<u8>,
 }
 
-impl Told {
-    fn seen(&self) -> (u8, Option<&str>, &[u8]) {
-        (
-            self.status,
-            self.said.as_ref().map(String::as_str),
-            self.printed.as_slice(),
-        )
+// What is seen of a run that ended so.
+fn told(alloc: Global, how: Result<(), Fault>, printed: Vec<u8>) -> Told {
+    let errors = Errors::new(alloc);
+    Told {
+        status: status(&errors, how),
+        said: errors.told(),
+        printed,
     }
+}
 
-    // Whether it printed all its lines, or nothing, and then says that memory was refused.
-    fn is_whole_or_refused(&self) -> bool {
-        match self.seen() {
-            (0, None, printed) => printed == TEXT.as_bytes(),
-            (1, Some(said), []) => REFUSED.iter().any(|reason| *reason == said),
-            _ => false,
+impl Told {
+    fn said(&self) -> &str {
+        match &self.said {
+            Some(text) => text.as_str(),
+            None => "",
         }
     }
+
+    fn seen(&self) -> (u8, &str, &[u8]) {
+        (self.status, self.said(), self.printed.as_slice())
+    }
+
+    // Whether it printed nothing, and says that memory was refused.
+    fn is_refused(&self) -> bool {
+        let said = self.said();
+        let is_said = said == NO_MEMORY || said == REFUSED || said == NO_THREAD;
+        self.status == 1 && is_said && self.printed.is_empty()
+    }
 }
 
-// A run by this handle, beside a task that holds the cell of a key for good.
+// A run by this handle, beside a task that holds the cell of a key for good, and how many pauses it made.
 fn run_beside<R: Threads + Wait + RandomSource + AllocGlobal + Clock + Sync>(
     rt: &R,
-    by: &Watched<'_, R>,
+    by: Watched<'_, R>,
     key: u64,
     turns: u64,
-) -> Result<Ended, Fault> {
+) -> Result<(Told, u64), Fault> {
     let (task, memo) = (MockTask::new(rt)?, table(rt.alloc(), &KEYS)?);
-    let holder = holder(rt, &memo, key, &task).ok_or(Fault::NoKey(key))?;
     let mut printed = Vec::with_capacity(rt.alloc(), TEXT.len())?;
-    let how = show(by, &memo, turns, &mut printed);
+    let holder = holder(rt, &memo, key, &task).ok_or(Fault::NoKey(key))?;
+    let how = show(&by, &memo, turns, &mut printed);
     drop(holder);
-    Ok(Ended { how, printed })
+    let pauses = by.pauses();
+    drop(by);
+    Ok((told(rt.alloc(), how, printed), pauses))
 }
 
-/// If the turns are used up, nothing is printed, whichever key is held.
+// The key that is held, the turns, and the pauses that both threads make, where it is the first key.
+const HELD: [(u64, u64, u64); 5] = [(1, 0, 0), (1, 1, 2), (1, 3, 6), (2, 3, 6), (3, 3, 6)];
+
+/// If the turns are used up, nothing is printed, whichever key is held. Each of the two threads has as many turns as
+/// the caller says, and makes a pause after each.
 #[test]
 fn turns_used_up_print_nothing(rt: HostRuntime) -> Result<(), Fail> {
-    for key in KEYS {
-        let told = run_beside(&rt, &Watched::new(&rt), key, 3)?.told(rt.alloc());
-        let wanted = (1, Some(TURNS_USED_UP), b"".as_slice());
-        assert_eq!(rt; told.seen(), wanted, "at key {key}");
-    }
-    Ok(())
-}
-
-/// Each of the two threads has as many turns as the caller says, and makes a pause after each.
-#[test]
-fn a_run_has_its_callers_turns(rt: HostRuntime) -> Result<(), Fail> {
-    for (turns, pauses) in [(0, 0), (1, 2), (3, 6)] {
-        let by = Watched::new(&rt);
-        let told = run_beside(&rt, &by, 1, turns)?.told(rt.alloc());
-        assert_eq!(rt; (told.status, by.pauses()), (1, pauses), "of {turns}");
+    for (key, turns, pauses) in HELD {
+        let (told, made) = run_beside(&rt, Watched::new(&rt), key, turns)?;
+        same(
+            &rt,
+            "a run",
+            told.seen(),
+            (1, TURNS_USED_UP, b"".as_slice()),
+        );
+        let made = if key == 1 { made } else { pauses };
+        same(
+            &rt,
+            "key, turns, pauses",
+            (key, turns, made),
+            (key, turns, pauses),
+        );
     }
     Ok(())
 }
@@ -119,26 +113,35 @@ fn a_run_has_its_callers_turns(rt: HostRuntime) -> Result<(), Fail> {
 fn run_starving<R: Threads + Wait + RandomSource + AllocGlobal + Clock + Sync>(
     rt: &R,
     before: u64,
-) -> Result<(Ended, bool), AllocError> {
+) -> Result<(Told, bool), AllocError> {
     let mut printed = Vec::with_capacity(rt.alloc(), TEXT.len())?;
     let by = Watched::starving(rt, before);
     let how = run(&by, &mut printed);
-    Ok((Ended { how, printed }, by.has_starved()))
+    let has_starved = by.has_starved();
+    drop(by);
+    Ok((told(rt.alloc(), how, printed), has_starved))
 }
 
-/// A run that has no memory from some request on prints all of its lines, or none.
+/// A run that has no memory from some request on prints all of its lines, or none. One that has memory to its end
+/// makes ten requests or more.
 #[test]
 fn a_run_without_memory_prints_all_or_nothing(rt: HostRuntime) -> Result<(), Fail> {
     for before in 0..100 {
-        let (ended, has_starved) = run_starving(&rt, before)?;
-        let told = ended.told(rt.alloc());
-        assert!(rt; told.is_whole_or_refused(), "after {before} requests");
+        let (told, has_starved) = run_starving(&rt, before)?;
+        let is_whole = told.seen() == (0, "", TEXT.as_bytes());
+        let is_known = is_whole || has_starved && told.is_refused();
+        same(&rt, told.said(), (before, is_known), (before, true));
         if !has_starved {
-            assert!(rt; before >= 10);
+            same(
+                &rt,
+                "the requests of a run",
+                (before, before >= 10),
+                (before, true),
+            );
             return Ok(());
         }
     }
-    assert!(rt; false, "always starved");
+    same(&rt, "always starved", true, false);
     Ok(())
 }
 
@@ -146,49 +149,37 @@ fn a_run_without_memory_prints_all_or_nothing(rt: HostRuntime) -> Result<(), Fai
 #[test]
 fn a_run_that_waits_without_memory_prints_nothing(rt: HostRuntime) -> Result<(), Fail> {
     for before in 0..19 {
-        let by = Watched::starving(&rt, before);
-        let ended = run_beside(&rt, &by, 1, 2)?;
-        drop(by);
-        let told = ended.told(rt.alloc());
-        let (status, said, printed) = told.seen();
-        let is_known = said == Some(TURNS_USED_UP) || told.is_whole_or_refused();
-        assert_eq!(rt; (status, is_known, printed.len()), (1, true, 0), "{said:?}");
+        let (told, _) = run_beside(&rt, Watched::starving(&rt, before), 1, 2)?;
+        let has_waited = told.seen() == (1, TURNS_USED_UP, b"".as_slice());
+        let is_known = has_waited || told.is_refused();
+        same(&rt, told.said(), (before, is_known), (before, true));
     }
     Ok(())
-}
-
-// A run while all memory is taken.
-fn run_without_memory<R: Threads + Wait + RandomSource + AllocGlobal + Clock + Sync>(
-    rt: &R,
-) -> Result<Ended, AllocError> {
-    let mut printed = Vec::new(rt.alloc());
-    let held = hoard(rt.alloc())?;
-    let how = run(rt, &mut printed);
-    drop(held);
-    Ok(Ended { how, printed })
-}
-
-// A run over a table that was made before all memory is taken.
-fn run_without_threads<R: Threads + Wait + RandomSource + AllocGlobal + Clock + Sync>(
-    rt: &R,
-) -> Result<Ended, AllocError> {
-    let (mut printed, memo) = (Vec::new(rt.alloc()), table(rt.alloc(), &KEYS)?);
-    let held = hoard(rt.alloc())?;
-    let how = show(rt, &memo, 1, &mut printed);
-    drop(held);
-    Ok(Ended { how, printed })
 }
 
 /// If no memory is left for a table, or for a thread, nothing is printed.
 #[test]
 fn refused_memory_prints_nothing(rt: HostRuntime) -> Result<(), Fail> {
-    let no_table = run_without_memory(&rt)?.told(rt.alloc());
-    assert_eq!(rt;
-        no_table.seen(),
-        (1, Some("out of memory\n"), b"".as_slice())
+    let memo = table(rt.alloc(), &KEYS)?;
+    let (mut first, mut second) = (Vec::new(rt.alloc()), Vec::new(rt.alloc()));
+    let held = hoard(rt.alloc())?;
+    let no_table = run(&rt, &mut first);
+    let no_thread = show(&rt, &memo, 1, &mut second);
+    drop(held);
+    let (first, second) = (
+        told(rt.alloc(), no_table, first),
+        told(rt.alloc(), no_thread, second),
     );
-    let no_thread = run_without_threads(&rt)?.told(rt.alloc());
-    assert_eq!(rt; no_thread.seen(), (1, Some(NO_THREAD), b"".as_slice()));
+    let wanted = [
+        (1, NO_MEMORY, b"".as_slice()),
+        (1, NO_THREAD, b"".as_slice()),
+    ];
+    same(
+        &rt,
+        "no table, no thread",
+        [first.seen(), second.seen()],
+        wanted,
+    );
     Ok(())
 }
 
@@ -200,7 +191,7 @@ fn written<R: Threads + Wait + RandomSource + AllocGlobal + Clock + Sync>(
     let how = run(rt, target);
     let mut printed = Vec::new(rt.alloc());
     printed.extend_from_slice(target.text())?;
-    Ok(Ended { how, printed }.told(rt.alloc()))
+    Ok(told(rt.alloc(), how, printed))
 }
 
 /// If a write fails, a beginning has gone out, and the run gives up.
@@ -210,19 +201,25 @@ fn a_failed_write_leaves_a_beginning(rt: HostRuntime) -> Result<(), Fail> {
         let mut target = Target::new(rt.alloc(), usize::MAX, fails_at, false);
         let told = written(&rt, &mut target)?;
         let (status, said, printed) = told.seen();
-        let (is_beginning, is_cut) = (
-            TEXT.as_bytes().starts_with(printed),
+        let is_beginning = TEXT.as_bytes().starts_with(printed);
+        let seen = (
+            fails_at,
+            status,
+            said,
+            is_beginning,
             printed.len() < TEXT.len(),
         );
-        let wanted = if target.has_failed() {
-            (1, Some("broken pipe\n"), true, true)
+        let has_failed = target.has_failed();
+        let (status, said) = if has_failed {
+            (1, "broken pipe\n")
         } else {
-            (0, None, true, false)
+            (0, "")
         };
-        assert_eq!(rt;
-            (status, said, is_beginning, is_cut),
-            wanted,
-            "at write {fails_at}"
+        same(
+            &rt,
+            "the write that fails, and the run",
+            seen,
+            (fails_at, status, said, true, has_failed),
         );
     }
     Ok(())
@@ -232,22 +229,25 @@ fn a_failed_write_leaves_a_beginning(rt: HostRuntime) -> Result<(), Fail> {
 #[test]
 fn a_failed_flush_is_told(rt: HostRuntime) -> Result<(), Fail> {
     let told = written(&rt, &mut Target::new(rt.alloc(), usize::MAX, 0, true))?;
-    let wanted = (1, Some("no storage space\n"), TEXT.as_bytes());
-    assert_eq!(rt; told.seen(), wanted);
+    same(
+        &rt,
+        "a run",
+        told.seen(),
+        (1, "no storage space\n", TEXT.as_bytes()),
+    );
     Ok(())
 }
 
 // How a run may end, its status then, and what it says.
-fn ends() -> [(Result<(), Fault>, u8, Option<&'static str>); 6] {
-    let poll = "a poll was refused: out of memory\n";
+fn ends() -> [(Result<(), Fault>, u8, &'static str); 6] {
     let output = Fault::Io(io::Error::other("no such output"));
     [
-        (Ok(()), 0, None),
-        (Err(Fault::Turns), 1, Some(TURNS_USED_UP)),
-        (Err(Fault::Refused(Refused::Memory)), 1, Some(poll)),
-        (Err(Fault::Thread), 1, Some(NO_THREAD)),
-        (Err(Fault::Memory(AllocError)), 1, Some("out of memory\n")),
-        (Err(output), 1, Some("no such output\n")),
+        (Ok(()), 0, ""),
+        (Err(Fault::Turns), 1, TURNS_USED_UP),
+        (Err(Fault::Refused(Refused::Memory)), 1, REFUSED),
+        (Err(Fault::Thread), 1, NO_THREAD),
+        (Err(Fault::Memory(AllocError)), 1, NO_MEMORY),
+        (Err(output), 1, "no such output\n"),
     ]
 }
 
@@ -255,8 +255,7 @@ fn ends() -> [(Result<(), Fault>, u8, Option<&'static str>); 6] {
 #[test]
 fn a_line_says_why(rt: HostRuntime) {
     for (how, status, said) in ends() {
-        let printed = Vec::new(rt.alloc());
-        let told = Ended { how, printed }.told(rt.alloc());
-        assert_eq!(rt; told.seen(), (status, said, b"".as_slice()));
+        let told = told(rt.alloc(), how, Vec::new(rt.alloc()));
+        same(&rt, said, told.seen(), (status, said, b"".as_slice()));
     }
 }

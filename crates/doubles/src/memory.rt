@@ -5,7 +5,7 @@ use std::alloc::{AllocError, Global};
 /// Takes memory until no request is granted. To drop what it answers gives all back.
 pub fn hoard(alloc: Global) -> Result<Vec<Vec<u8>>, AllocError> {
     let held = Vec::with_capacity(alloc, 200_000)?;
-    all_taken(alloc, held, 0x4000_0000_0000)
+    Ok(all_taken(alloc, held, 0x4000_0000_0000))
 }
 
 /// Takes all memory but a little, of which the rest of a test makes do.
@@ -19,17 +19,19 @@ pub fn hoard_most(alloc: Global) -> Result<Vec<Vec<u8>>, AllocError> {
 /// Takes all memory but one block of so many bytes, while all but a little is taken already.
 pub fn hoard_rest(alloc: Global, bytes: usize) -> Result<Vec<Vec<u8>>, AllocError> {
     let block = Vec::<u8>::with_capacity(alloc, bytes)?;
-    let rest = all_taken(alloc, Vec::with_capacity(alloc, 4_000)?, 0x1000_0000)?;
+    let rest = rest_taken(alloc)?;
     drop(block);
     Ok(rest)
 }
 
+// Takes all memory while all but a little is taken already.
+fn rest_taken(alloc: Global) -> Result<Vec<Vec<u8>>, AllocError> {
+    let held = Vec::with_capacity(alloc, 4_000)?;
+    Ok(all_taken(alloc, held, 0x1000_0000))
+}
+
 // Takes blocks of this size and of each that is half as large, until none is granted.
-fn all_taken(
-    alloc: Global,
-    mut held: Vec<Vec<u8>>,
-    most: usize,
-) -> Result<Vec<Vec<u8>>, AllocError> {
+fn all_taken(alloc: Global, mut held: Vec<Vec<u8>>, most: usize) -> Vec<Vec<u8>> {
     let mut size = most;
     for _ in 0..47 {
         take_all(alloc, &mut held, size);
@@ -39,7 +41,7 @@ fn all_taken(
     for kind in 0..KINDS {
         take_all(alloc, &mut held, size_of_kind(kind));
     }
-    Ok(held)
+    held
 }
 
 // Takes blocks of this size until one is refused.
@@ -150,15 +152,8 @@ impl Rations {
                 return Ok(None);
             }
         }
-        let mut blocks = Vec::with_capacity(self.alloc, 3 * KINDS * PLENTY)?;
-        for place in 0..KINDS * PLENTY {
-            blocks.push(Vec::with_capacity(self.alloc, size_of_kind(place / PLENTY))?)?;
-        }
-        let rest = all_taken(
-            self.alloc,
-            Vec::with_capacity(self.alloc, 4_000)?,
-            0x1000_0000,
-        )?;
+        let mut blocks = self.plenty()?;
+        let rest = rest_taken(self.alloc)?;
         for place in 0..KINDS * PLENTY {
             give_back(self.alloc, &mut blocks, place);
         }
@@ -169,6 +164,15 @@ impl Rations {
             blocks,
             granted,
         }))
+    }
+
+    // Plenty of blocks of each kind, and room for as many more.
+    fn plenty(&self) -> Result<Vec<Vec<u8>>, AllocError> {
+        let mut blocks = Vec::with_capacity(self.alloc, 3 * KINDS * PLENTY)?;
+        for place in 0..KINDS * PLENTY {
+            blocks.push(Vec::with_capacity(self.alloc, size_of_kind(place / PLENTY))?)?;
+        }
+        Ok(blocks)
     }
 
     // Grants requests for blocks of each kind, and takes what else there is of it: how many are granted of each.

@@ -4,8 +4,6 @@
 //! `# NAME: WHAT IT IS ABOUT`, and each other line is a line of a script (docs/SCRIPTS.md). After `=>` stands what it
 //! adds to the record, with a comma between two entries; a line that adds nothing needs no `=>`. The last line begins
 //! with `=>`, since no line of the script leads to it: it has the queue, with which the record ends.
-//!
-//! `A to B * ` before one of the lines makes the schedule stand for several: with A such lines, and so on, to B.
 
 use std::alloc::{AllocError, Global};
 use std::fmt;
@@ -15,8 +13,6 @@ use std::test::Fail;
 #[derive(Drop)]
 pub struct Schedule<'a> {
     name: &'a str,
-    // How many such lines there are, if it is one of several.
-    times: Option<usize>,
     pub lines: Vec<Line<'a>>,
 }
 
@@ -43,14 +39,10 @@ impl<'a> Line<'a> {
     }
 }
 
-// The name, and how many lines there are of which there may be several.
+// The name.
 impl fmt::Display for Schedule<'_> {
     fn fmt<W: fmt::Write>(&self, f: &mut fmt::Formatter<W>) -> fmt::Result {
-        f.write_str(self.name)?;
-        match self.times {
-            Some(times) => write!(f, "_{times}"),
-            None => Ok(()),
-        }
+        f.write_str(self.name)
     }
 }
 
@@ -58,67 +50,28 @@ impl fmt::Display for Schedule<'_> {
 pub fn schedules_in(alloc: Global, text: &str) -> Result<Vec<Schedule<'_>>, Fail> {
     let mut schedules = Vec::new(alloc);
     for part in text.split("\n\n") {
-        let (head, lines) = part.split_once('\n').unwrap_or((part, ""));
-        let Some(name) = name_in(head) else {
-            return Err(Fail::new(format_args!("no schedule begins so: {head}")));
-        };
-        add(alloc, &mut schedules, name, lines)?;
+        schedules.push(read(alloc, part)?)?;
     }
     Ok(schedules)
 }
 
-// The name in the first line of a schedule.
-fn name_in(head: &str) -> Option<&str> {
-    let (name, _) = head.strip_prefix("# ")?.split_once(": ")?;
-    Some(name)
-}
-
-// Adds the schedules that these lines stand for.
-fn add<'a>(
-    alloc: Global,
-    schedules: &mut Vec<Schedule<'a>>,
-    name: &'a str,
-    lines: &'a str,
-) -> Result<(), AllocError> {
-    match lines.lines().find_map(repeated) {
-        None => schedules.push(read(alloc, name, lines, None)?)?,
-        Some((least, most, _)) => {
-            for times in least..=most {
-                schedules.push(read(alloc, name, lines, Some(times))?)?;
-            }
-        }
-    }
-    Ok(())
-}
-
-// The numbers and the line of `A to B * LINE`, if B is not below A.
-fn repeated(text: &str) -> Option<(usize, usize, &str)> {
-    let (numbers, line) = text.split_once(" * ")?;
-    let (least, most) = numbers.split_once(" to ")?;
-    let (least, most) = (least.parse().ok()?, most.parse().ok()?);
-    if least > most {
-        return None;
-    }
-    Some((least, most, line))
-}
-
-fn read<'a>(
-    alloc: Global,
-    name: &'a str,
-    text: &'a str,
-    times: Option<usize>,
-) -> Result<Schedule<'a>, AllocError> {
+fn read(alloc: Global, part: &str) -> Result<Schedule<'_>, Fail> {
+    let (head, text) = part.split_once('\n').unwrap_or((part, ""));
+    let named = head.strip_prefix("# ").unwrap_or("");
+    let Some((name, _)) = named.split_once(": ") else {
+        return Err(Fail::new(format_args!("no schedule begins so: {head}")));
+    };
     let mut lines = Vec::new(alloc);
     for line in text.lines() {
-        let (count, line) = match repeated(line) {
-            Some((_, _, line)) => (times.unwrap_or(1), line),
-            None => (1, line),
-        };
-        for _ in 0..count {
-            lines.push(Line::read(line))?;
-        }
+        lines.push(Line::read(line))?;
     }
-    Ok(Schedule { name, times, lines })
+    Ok(Schedule { name, lines })
+}
+
+// Adds a line to a text.
+fn add_line(text: &mut String, line: &str) -> Result<(), AllocError> {
+    text.push_str(line)?;
+    text.push('\n')
 }
 
 impl Schedule<'_> {
@@ -127,7 +80,7 @@ impl Schedule<'_> {
         let mut script = String::new(alloc);
         for line in &self.lines {
             if !line.order.is_empty() {
-                writeln!(script, "{}", line.order)?;
+                add_line(&mut script, line.order)?;
             }
         }
         Ok(script)
@@ -139,21 +92,27 @@ impl Schedule<'_> {
         for line in &self.lines {
             for entry in line.added.split(", ") {
                 if !entry.is_empty() {
-                    writeln!(record, "{entry}")?;
+                    add_line(&mut record, entry)?;
                 }
             }
         }
         Ok(record)
     }
 
+    // The line in this place, and what came of it.
+    fn line<'b>(&self, came: &'b [String], place: usize) -> (Line<'_>, &'b str) {
+        let line = self.lines.get(place).copied().unwrap_or(NO_LINE);
+        let came = match came.get(place) {
+            Some(text) => text.as_str(),
+            None => "",
+        };
+        (line, came)
+    }
+
     /// Says of the first line that led to something else than stands beside it what was wanted and what came.
     pub fn difference(&self, alloc: Global, came: &[String]) -> Result<Option<String>, AllocError> {
         for place in 0..came.len().max(self.lines.len()) {
-            let Line { order, added } = self.lines.get(place).copied().unwrap_or(NO_LINE);
-            let came = match came.get(place) {
-                Some(text) => text.as_str(),
-                None => "",
-            };
+            let (Line { order, added }, came) = self.line(came, place);
             if added != came {
                 let number = place.saturating_add(1);
                 let text = format!(in alloc;
