@@ -68,6 +68,14 @@ fn read(alloc: Global, part: &str) -> Result<Schedule<'_>, Fail> {
     Ok(Schedule { name, lines })
 }
 
+// The text in this place, or none.
+fn text_at(texts: &[String], place: usize) -> &str {
+    match texts.get(place) {
+        Some(text) => text.as_str(),
+        None => "",
+    }
+}
+
 // Adds a line to a text.
 fn add_line(text: &mut String, line: &str) -> Result<(), AllocError> {
     text.push_str(line)?;
@@ -99,29 +107,28 @@ impl Schedule<'_> {
         Ok(record)
     }
 
-    // The line in this place, and what came of it.
-    fn line<'b>(&self, came: &'b [String], place: usize) -> (Line<'_>, &'b str) {
-        let line = self.lines.get(place).copied().unwrap_or(NO_LINE);
-        let came = match came.get(place) {
-            Some(text) => text.as_str(),
-            None => "",
-        };
-        (line, came)
-    }
-
     /// Says of the first line that led to something else than stands beside it what was wanted and what came.
     pub fn difference(&self, alloc: Global, came: &[String]) -> Result<Option<String>, AllocError> {
         for place in 0..came.len().max(self.lines.len()) {
-            let (Line { order, added }, came) = self.line(came, place);
-            if added != came {
-                let number = place.saturating_add(1);
-                let text = format!(in alloc;
-                    "in {self}, line {number} {order:?}: wanted {added:?}, and came {came:?}"
-                )?;
-                return Ok(Some(text));
+            let line = self.lines.get(place).copied().unwrap_or(NO_LINE);
+            let came = text_at(came, place);
+            if line.added != came {
+                return Ok(Some(self.told(alloc, place, line, came)?));
             }
         }
         Ok(None)
+    }
+
+    // What was wanted of the line in this place, and what came.
+    fn told(
+        &self,
+        alloc: Global,
+        place: usize,
+        line: Line<'_>,
+        came: &str,
+    ) -> Result<String, AllocError> {
+        let (number, Line { order, added }) = (place.saturating_add(1), line);
+        format!(in alloc; "in {self}, line {number} {order:?}: wanted {added:?}, and came {came:?}")
     }
 
     /// Fails with what that says, if a line led to something else.
