@@ -14,7 +14,7 @@
 //! | `other` | how the last call of U ended that T made, and the notes of U's side, are told |
 //! | `show` | the word is told, and whether a queue stands at the door |
 //!
-//! After `=>` stands how the last call ended, `Ok` with the value, and the notes of the task's side since its last call.
+//! After `=>` stands how the last call ended, `Ok` with the value, and the notes of the task's side since its last one.
 
 use super::caller::Caller;
 use super::meddler::{Act, Meddler};

@@ -1,6 +1,6 @@
 //! A handle that counts pauses, and may have no memory from some request on.
 
-use machine_tests::doubles::memory::hoard;
+use doubles::memory::hoard;
 use std::alloc::{Alloc, AllocGlobal, Global};
 use std::io;
 use std::random::RandomSource;
