@@ -1,8 +1,8 @@
-//! Makes operations of a cell, each as often as it is told to: the like of `bench` in crates/cell_tests.
+//! Makes operations of a cell, each as often as it is told to: the like of crates/cell_bench.
 //!
 //! Built with `--cfg async_cells` it uses the crate async_once_cell, and without it std::sync::OnceLock, which knows
 //! `get` and `init` alone, of one thread and of several. The lines of standard input and of standard output are those
-//! of crates/cell_tests, but that `lost_wake` prints two numbers. The status is 3 at an operation that is not there.
+//! of crates/cell_bench, but that `lost_wake` prints two numbers. The status is 3 at an operation that is not there.
 
 use std::hint::black_box;
 use std::io;

@@ -2,8 +2,8 @@
 //! cells are filled at last, and no thread waits in vain.
 
 use super::gathered::{CELLS, THREADS, Visited, alike, gathered};
-use crate::left::FILLED;
-use crate::threads::doubles::slow::{Driven, Failing, Slow, ended, left_midway};
+use machine_tests::doubles::left::FILLED;
+use crate::doubles::slow::{Driven, Failing, Slow, ended, left_midway};
 use async_once_cell::record::Reply;
 use async_once_cell::{Lazy, OnceCell};
 use futures::test::MockTask;

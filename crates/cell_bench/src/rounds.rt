@@ -2,11 +2,11 @@
 //!
 //! Each is a function of its own, and is passed its cell if that is set before the loop, so that
 //! nothing of it is known to the compiler there.
-use crate::bench::failures::{failures, turns};
-use crate::bench::lost_wake::lost;
-use crate::bench::switch::Switched;
-use crate::bench::threads::{cells, fills_of_four, fills_of_two, looks_of_four, looks_of_two};
-use crate::bench::waits::{kept_parker, new_cells, set_cell};
+use crate::failures::{failures, turns};
+use crate::lost_wake::lost;
+use crate::switch::Switched;
+use crate::threads::{cells, fills_of_four, fills_of_two, looks_of_four, looks_of_two};
+use crate::waits::{kept_parker, new_cells, set_cell};
 use async_once_cell::once::InitFuture;
 use async_once_cell::{Lazy, OnceCell};
 use futures::Future;

@@ -4,7 +4,7 @@ mod fault;
 mod table;
 mod users;
 
-use crate::threads::doubles::meeting::{Blocking, Listening, Meeting};
+use crate::doubles::meeting::{Blocking, Listening, Meeting};
 use async_once_cell::{Lazy, OnceCell, Parker, Refused};
 use fault::Fault;
 use futures::channel::oneshot::{Receiver, Sender, channel};

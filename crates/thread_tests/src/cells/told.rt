@@ -1,8 +1,8 @@
 //! Two threads, each with a token of its own: what both were told is one value.
 ghost use Rattle.std.specs.Prelude.{◌≡◌, IfSome};
 
-use crate::left::FILLED;
-use crate::threads::doubles::meeting::{Blocking, Meeting};
+use machine_tests::doubles::left::FILLED;
+use crate::doubles::meeting::{Blocking, Meeting};
 use async_once_cell::OnceCell;
 use async_once_cell::once::{InitError, Known, TryInitFuture};
 use futures::Future;

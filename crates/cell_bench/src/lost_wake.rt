@@ -1,5 +1,5 @@
 //! Rounds of two threads, in which a holder fails while another caller begins to wait.
-use crate::bench::switch::Failing;
+use crate::switch::Failing;
 use async_once_cell::OnceCell;
 use futures::future::ok;
 use futures::test::MockTask;

@@ -1,9 +1,9 @@
 //! Inits that fail while another waits, which then fills the cell at once.
 ghost use Rattle.std.specs.Prelude.{◌≡◌, false};
 
-use crate::doubles::poll::heard;
-use crate::left::is_filled;
-use crate::threads::doubles::meeting::meet;
+use machine_tests::doubles::poll::heard;
+use machine_tests::doubles::left::is_filled;
+use crate::doubles::meeting::meet;
 use async_once_cell::once::TryInitFuture;
 use async_once_cell::record::Reply;
 use async_once_cell::{OnceCell, Parker};

@@ -3,6 +3,7 @@
 //! Each line of standard input names an operation of `rounds` and says how often it is made, as `get 1000`. For each
 //! line one is printed: the same words, and the sum of the values and errors that the polls and looks answered, each of
 //! which is 1; for `lost_wake` it is how many waiters were lost.
+#![tactic(auto)]
 
 mod failures;
 mod lost_wake;
@@ -19,14 +20,11 @@ use std::random::RandomSource;
 use std::sync::Wait;
 use std::thread::Threads;
 
-/// Makes what each line of the input says, and prints the sums. All polls are of one task.
-pub fn run<R>(rt: &R) -> io::Result<()>
-where
-    R: Input + Print + AllocGlobal + Wait + RandomSource + Threads + Sync,
-{
-    let task = Solo::new(rt, Doorbell::parking())?;
+// All polls are of one task.
+fn main(rt: HostRuntime) -> io::Result<()> {
+    let task = Solo::new(&rt, Doorbell::parking())?;
     let mut cx = task.begin();
-    let done = answer_each(rt, &mut cx);
+    let done = answer_each(&rt, &mut cx);
     cx.cancel();
     done
 }

@@ -1,9 +1,9 @@
 //! Two threads, each with a task: one polls while the other is inside the init.
 ghost use Rattle.std.specs.Prelude.{◌≡◌, IfSome};
 
-use crate::doubles::poll::heard;
-use crate::left::FILLED;
-use crate::threads::doubles::meeting::{Meeting, Spinning};
+use machine_tests::doubles::poll::heard;
+use machine_tests::doubles::left::FILLED;
+use crate::doubles::meeting::{Meeting, Spinning};
 use async_once_cell::once::Known;
 use async_once_cell::record::Reply;
 use async_once_cell::{Lazy, LazyFuturePin, OnceCell};

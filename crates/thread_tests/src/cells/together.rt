@@ -1,10 +1,10 @@
 //! Threads that hold one cell in turn, fill many cells, or look at a cell that others use.
 
-use crate::doubles::poll::{heard, polled, tasks};
-use crate::doubles::stub::Tried;
-use crate::left::{has_text, is_filled, is_free};
-use crate::threads::doubles::meeting::meet;
-use crate::threads::doubles::slow::Slow;
+use machine_tests::doubles::poll::{heard, polled, tasks};
+use crate::doubles::Tried;
+use machine_tests::doubles::left::{has_text, is_filled, is_free};
+use crate::doubles::meeting::meet;
+use crate::doubles::slow::Slow;
 use async_once_cell::OnceCell;
 use async_once_cell::record::Reply;
 use futures::Future;

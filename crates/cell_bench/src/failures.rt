@@ -2,7 +2,7 @@
 //!
 //! A future that waits is polled only if it was woken: a failure wakes the one that is listed
 //! longest.
-use crate::bench::switch::Failing;
+use crate::switch::Failing;
 use async_once_cell::OnceCell;
 use async_once_cell::once::{InitError, TryInitFuture};
 use futures::Future;

@@ -1,9 +1,9 @@
 //! Threads that use one cell in rounds. Between two of them its owner looks at all that is left.
 
-use crate::doubles::poll::tasks;
-use crate::doubles::stub::Tried;
-use crate::left::{is_filled, is_free};
-use crate::threads::doubles::slow::{Slow, ended, left_midway};
+use machine_tests::doubles::poll::tasks;
+use crate::doubles::Tried;
+use machine_tests::doubles::left::{is_filled, is_free};
+use crate::doubles::slow::{Slow, ended, left_midway};
 use async_once_cell::OnceCell;
 use async_once_cell::record::Reply;
 use futures::test::MockTask;

@@ -1,5 +1,5 @@
 //! The loops of threads: each thread makes what the others make, on the same cells.
-use crate::bench::rounds::get;
+use crate::rounds::get;
 use async_once_cell::OnceCell;
 use futures::executor::block_on;
 use futures::future::ready;

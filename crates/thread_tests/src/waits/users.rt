@@ -3,7 +3,7 @@ ghost use Rattle.std.specs.Prelude.{◌≡◌, Some, IfOk};
 ghost use Rattle.async_once_cell.specs.Tokens.{Agrees};
 
 use super::fault::Fault;
-use crate::threads::doubles::slow::Slow;
+use crate::doubles::slow::Slow;
 use async_once_cell::{InitError, Known, Lazy, LazyFuturePin, OnceCell, Parker, Refused};
 use futures::Future;
 use futures::task::{Context, Poll};

@@ -1,9 +1,9 @@
 //! Four threads and two hundred cells: what comes out does not depend on which was first.
 
 use super::gathered::{CELLS, THREADS, Visited, alike, gathered};
-use crate::doubles::stub::Tried;
-use crate::left::FILLED;
-use crate::threads::doubles::slow::{Driven, Slow, ended};
+use crate::doubles::Tried;
+use machine_tests::doubles::left::FILLED;
+use crate::doubles::slow::{Driven, Slow, ended};
 use async_once_cell::OnceCell;
 use async_once_cell::record::Reply;
 use futures::test::MockTask;

@@ -1,7 +1,7 @@
 //! Inits that take several polls, and futures that many threads drive, each by its own task.
 
-use crate::doubles::poll::heard;
-use crate::doubles::stub::Tried;
+use machine_tests::doubles::poll::heard;
+use crate::doubles::Tried;
 use async_once_cell::LazyFuturePin;
 use async_once_cell::once::TryInitFuture;
 use async_once_cell::record::Reply;

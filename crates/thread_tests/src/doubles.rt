@@ -2,3 +2,6 @@
 
 pub mod meeting;
 pub mod slow;
+
+/// The answer of an init that may fail.
+pub type Tried = Result<u64, u64>;
