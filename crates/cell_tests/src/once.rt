@@ -1,6 +1,5 @@
 //! What a `OnceCell` does on one thread.
 
-mod contracts;
 mod crowd;
 mod drops;
 mod inside;
@@ -8,7 +7,6 @@ mod kept;
 mod leaving;
 mod order;
 mod owner;
-mod records;
 mod schedules;
 mod second_queue;
 mod shown;

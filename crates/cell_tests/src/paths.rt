@@ -1,5 +1,6 @@
 //! The parts below the cells, by the paths that users write.
 
+use crate::doubles::same;
 use async_once_cell::inner::Parts;
 use async_once_cell::queue::{Answer, Lists, MAX_WAITERS, NEW, Op};
 use async_once_cell::step::Step;
@@ -11,7 +12,7 @@ use std::test::Fail;
 fn a_list(rt: HostRuntime) {
     let mut lists = Lists::new(rt.alloc());
     let answers = [7, 8].map(|waker| lists.list(&mut None, &mut Some(waker), NEW).0);
-    assert_eq!(rt; answers, [Answer::Claimed, Answer::Listed]);
+    same(&rt, "answers", answers, [Answer::Claimed, Answer::Listed]);
 }
 
 // A queue is put to the door of a new cell, and a look into it gets the right.
@@ -24,7 +25,8 @@ fn a_core(rt: HostRuntime) -> Result<(), Fail> {
         return Err(Fail::new("no queue was put"));
     };
     core.reserve()?;
-    assert_eq!(rt; core.section(&queue, &mut Op::Look(None)), Answer::Claimed);
+    let answer = core.section(&queue, &mut Op::Look(None));
+    same(&rt, "answer", answer, Answer::Claimed);
     Ok(())
 }
 
@@ -32,6 +34,10 @@ fn a_core(rt: HostRuntime) -> Result<(), Fail> {
 #[test]
 fn a_step(rt: HostRuntime) {
     let step = Step::<u64, u64>::new();
-    assert_eq!(rt; (step.is_resting(), step.left()), (true, 0));
-    assert!(rt; MAX_WAITERS > 0);
+    same(
+        &rt,
+        "a step, and room",
+        (step.is_resting(), step.left(), MAX_WAITERS > 0),
+        (true, 0, true),
+    );
 }

@@ -1,6 +1,7 @@
 //! Holders whose inits are Pending and ask for nothing.
 
 use crate::doubles::poll::polled_once;
+use crate::doubles::same;
 use async_once_cell::record::Reply;
 use async_once_cell::{Lazy, OnceCell};
 use futures::future::pending;
@@ -12,7 +13,7 @@ use std::test::Fail;
 fn pending_holder_is_not_called(rt: HostRuntime) -> Result<(), Fail> {
     let (cell, task) = (OnceCell::new(), MockTask::new(&rt)?);
     let told = polled_once(&task, cell.get_or_init(&rt, pending::<u64>()));
-    assert_eq!(rt; told, (Reply::Pending, false));
+    same(&rt, "told", told, (Reply::Pending, false));
     Ok(())
 }
 
@@ -21,7 +22,7 @@ fn pending_holder_is_not_called(rt: HostRuntime) -> Result<(), Fail> {
 fn pending_lazy_holder_is_not_called(rt: HostRuntime) -> Result<(), Fail> {
     let (lazy, task) = (Lazy::new(pending::<u64>()), MockTask::new(&rt)?);
     let told = polled_once(&task, lazy.get(&rt));
-    assert_eq!(rt; told, (Reply::Pending, false));
+    same(&rt, "told", told, (Reply::Pending, false));
     Ok(())
 }
 
@@ -36,9 +37,7 @@ fn pending_holder_that_waited_is_not_called(rt: HostRuntime) -> Result<(), Fail>
     drop(holder);
     let is_called = two.is_woken();
     let holds = two.poll(&mut waiter).is_pending();
-    assert_eq!(rt;
-        ([are_pending, is_called, holds], two.is_woken()),
-        ([true; 3], false)
-    );
+    let told = ([are_pending, is_called, holds], two.is_woken());
+    same(&rt, "told", told, ([true; 3], false));
     Ok(())
 }

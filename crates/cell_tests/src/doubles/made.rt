@@ -1,6 +1,7 @@
 //! Futures of cells that a schedule makes.
 
 use crate::doubles::expected::is_shown;
+use crate::doubles::other::Meddling;
 use crate::doubles::poll::heard;
 use crate::doubles::stub::{Init, Stub, Tried, count};
 use async_once_cell::once::{InitFuture, TryInitFuture};
@@ -48,27 +49,6 @@ impl Future for Looks<'_> {
     }
 }
 
-/// An init that polls a second future of its cell once, looks at the cell, and drops that future. It
-/// gives 6 if that was Pending and the cell empty, else 1. The init of the second does as the stub
-/// says.
-#[derive(Drop)]
-pub struct Within<'a, R> {
-    pub cell: &'a OnceCell<u64>,
-    pub rt: &'a R,
-    pub stub: &'a Stub<u64>,
-}
-
-impl<R: Wait + AllocGlobal> Future for Within<'_, R> {
-    type Output = u64;
-
-    fn poll(&mut self, cx: &mut Context<'_>) -> Poll<u64> {
-        let mut second = self.cell.get_or_init(self.rt, self.stub.init());
-        let is_pending = second.poll(cx).is_pending();
-        let is_empty = self.cell.get().is_none();
-        Poll::Ready(if is_pending && is_empty { 6 } else { 1 })
-    }
-}
-
 fn text<T: fmt::Debug>(alloc: Global, value: &T) -> Result<String, AllocError> {
     format!(in alloc; "{value:?}")
 }
@@ -84,21 +64,21 @@ fn lazy_text<F: Future, R: Wait + AllocGlobal>(
 
 /// A future of a cell, by the kind of its init.
 #[derive(Drop)]
-pub enum Made<'a, 'i, R: Wait + AllocGlobal> {
-    Sure(InitFuture<'a, u64, Init<'i, u64>, R>),
-    Trying(TryInitFuture<'a, u64, u64, Init<'i, Tried>, R>),
-    Looking(InitFuture<'a, u64, Looks<'a>, R>),
-    Inside(InitFuture<'a, u64, Within<'a, R>, R>),
-    Lazily(LazyFuturePin<'a, u64, Init<'i, u64>, R>),
+pub enum Made<'o, 'a, 'i, R: Wait + AllocGlobal> {
+    Sure(InitFuture<'o, u64, Init<'i, u64>, R>),
+    Trying(TryInitFuture<'o, u64, u64, Init<'i, Tried>, R>),
+    Looking(InitFuture<'o, u64, Looks<'o>, R>),
+    Using(TryInitFuture<'o, u64, u64, Meddling<'o, 'a, R>, R>),
+    Lazily(LazyFuturePin<'o, u64, Init<'i, u64>, R>),
 }
 
-impl<R: Wait + AllocGlobal> Made<'_, '_, R> {
+impl<R: Wait + AllocGlobal> Made<'_, '_, '_, R> {
     fn poll(&mut self, cx: &mut Context<'_>) -> Reply {
         match self {
             Made::Sure(future) => heard(Future::poll(future, cx)),
             Made::Trying(future) => heard(Future::poll(future, cx)),
             Made::Looking(future) => heard(Future::poll(future, cx)),
-            Made::Inside(future) => heard(Future::poll(future, cx)),
+            Made::Using(future) => heard(Future::poll(future, cx)),
             Made::Lazily(future) => heard(Future::poll(future, cx)),
         }
     }
@@ -115,8 +95,17 @@ impl<R: Wait + AllocGlobal> Made<'_, '_, R> {
             Made::Sure(future) => future.is_finished(),
             Made::Trying(future) => future.is_finished(),
             Made::Looking(future) => future.is_finished(),
-            Made::Inside(future) => future.is_finished(),
+            Made::Using(future) => future.is_finished(),
             Made::Lazily(future) => future.is_finished(),
+        }
+    }
+
+    /// Calls `leave` of a future that is not done, if it is of one of two kinds.
+    pub fn leave(&mut self) {
+        match self {
+            Made::Looking(future) if !future.is_finished() => future.leave(),
+            Made::Lazily(future) if !future.is_finished() => future.leave(),
+            _ => {}
         }
     }
 
@@ -126,7 +115,7 @@ impl<R: Wait + AllocGlobal> Made<'_, '_, R> {
             Made::Sure(future) => text(alloc, future),
             Made::Trying(future) => text(alloc, future),
             Made::Looking(future) => text(alloc, future),
-            Made::Inside(future) => text(alloc, future),
+            Made::Using(future) => text(alloc, future),
             Made::Lazily(future) => lazy_text(alloc, future),
         }
     }

@@ -3,8 +3,8 @@
 //! There is a `OnceCell`, and a `Lazy` with a future of its own. `init T` and `try T` make future T by
 //! `get_or_init` and `get_or_try_init`, `get T`, `unpin T` and `into T` by `get`, `get_unpin` and
 //! `into_future` of the `Lazy`. `looks T TEXT` makes one whose init looks at its cell when it is
-//! dropped, and `found` says whether that showed TEXT. `within T` makes one whose init polls a second
-//! future of its cell. `drop T` and `forget T` put an end to future T.
+//! dropped, and `found` says whether that showed TEXT. `drop T` and `forget T` put an end to future T, and `leave T`
+//! calls its `leave`.
 //!
 //! `poll T A` polls it by task T, `poll T A W` by task W; if its init is polled, it answers A: `p`,
 //! `v` with a value, or `e` with an error. `show` and `lazy` are the Debug texts of the cells, `future T`
@@ -13,258 +13,60 @@
 //! future is done, and the tasks that were woken since the line before. An init that is Pending asks for
 //! another poll of its task, which counts as a wake.
 //!
-//! `take` is the owner's call on the `OnceCell`, and puts an end to all futures before. `end`, the last
-//! line, has what `into_inner` of both cells answers. `lazy` has what `try_get` answers before the text.
+//! Task 1 has one other future of the `OnceCell`, whose init is Pending once and then gives 4. `other` polls it.
+//! `uses T PLAN` makes a future as `try T` does, whose init polls, drops or visits the other one, as `Meddling` says;
+//! then `found` has what that answered at last.
+//!
+//! `look` has what the `OnceCell` lends, a new token, and one after each of two looks. `ask A` polls a new future once
+//! with a new token, by task 0, and `know A` with one that looked before. Then comes what the token knows, and how many
+//! inits were dropped before that future was. `lazy` has what `try_get` answers before the text.
+//!
+//! `owner` stands before a call of the owner, and puts an end to all futures: `take` and `write N` on the `OnceCell`,
+//! and `with N`, `from N` and `default` put a new one in its place; `lend N` writes the value of the `Lazy`, and
+//! `replace N` and `renew` put a new one in its place. After `=>` stands what was there. `end`, the last line, has what
+//! `into_inner` of both cells answers.
 
 mod little;
 mod refusals;
+mod scene;
 
-use crate::doubles::made::{Looks, Made, Within};
-use crate::doubles::poll::{calm, tasks};
-use crate::doubles::stub::{Init, Stub, Tried, count};
-use async_once_cell::record::Reply;
+use crate::doubles::made::Made;
+use crate::doubles::other::Other;
+use crate::doubles::stub::{Init, Tried};
 use async_once_cell::{Lazy, OnceCell};
-use futures::test::MockTask;
 pub use little::run_in_little;
 use machine_tests::doubles::memory::hoard;
 pub use refusals::refuse_each;
+use scene::{Inits, Outcome, Scene, Tasks};
 use std::alloc::{AllocError, AllocGlobal, Global};
-use std::cell::Cell;
+use std::mem;
 use std::random::RandomSource;
 use std::sync::Wait;
 use std::test::Fail;
-use std::{fmt, io, mem};
 
-// What a line led to: what a poll answered, and whether the future is done.
-#[derive(Clone, Copy)]
-enum Outcome {
-    Obeyed,
-    Unreadable,
-    Polled(Reply, bool),
-}
-
-impl fmt::Display for Outcome {
-    fn fmt<W: fmt::Write>(&self, f: &mut fmt::Formatter<W>) -> fmt::Result {
-        match *self {
-            Outcome::Obeyed => f.write_str("so"),
-            Outcome::Unreadable => f.write_str("unreadable"),
-            Outcome::Polled(reply, is_done) => {
-                let done = if is_done { ", done" } else { "" };
-                write!(f, "{}{done}", Heard(reply))
-            }
-        }
-    }
-}
-
-// What a poll answered.
-#[derive(Clone, Copy)]
-struct Heard(Reply);
-
-impl fmt::Display for Heard {
-    fn fmt<W: fmt::Write>(&self, f: &mut fmt::Formatter<W>) -> fmt::Result {
-        match self.0 {
-            Reply::Pending => f.write_str("pending"),
-            Reply::Value(value) => write!(f, "v{value}"),
-            Reply::Error(error) => write!(f, "e{error}"),
-            Reply::Memory => f.write_str("memory"),
-            Reply::Full => f.write_str("full"),
-        }
-    }
-}
-
-// How many futures and tasks a schedule has, which are numbered from 0: one more than its greatest number.
+// How many futures and tasks a schedule has, which are numbered from 0: one more than its greatest number, and two at
+// least.
 fn most(lines: &str) -> usize {
-    let mut greatest = 0;
+    let mut greatest = 1;
     for number in lines.split(|letter: char| !letter.is_ascii_digit()) {
         greatest = greatest.max(number.parse::<usize>().unwrap_or(0));
     }
     greatest.saturating_add(1)
 }
 
-// The tasks of a schedule.
-#[derive(Drop)]
-struct Tasks {
-    tasks: Vec<MockTask>,
-}
-
-impl Tasks {
-    fn new<R: AllocGlobal + RandomSource>(rt: &R, most: usize) -> io::Result<Self> {
-        let tasks = Tasks {
-            tasks: tasks(rt, most)?,
-        };
-        // A new task counts as woken.
-        tasks.calm();
-        Ok(tasks)
-    }
-
-    fn is_woken(&self, number: usize) -> bool {
-        match self.tasks.get(number) {
-            Some(task) => task.is_woken(),
-            None => false,
-        }
-    }
-
-    fn calm(&self) {
-        for task in &self.tasks {
-            calm(task);
-        }
-    }
-}
-
-// The tasks that were woken. If several in a row were, the first and the last stand for them.
-impl fmt::Display for Tasks {
-    fn fmt<W: fmt::Write>(&self, f: &mut fmt::Formatter<W>) -> fmt::Result {
-        let mut before = false;
-        for number in 0..self.tasks.len() {
-            let is_woken = self.is_woken(number);
-            if is_woken && !before {
-                write!(f, ", wakes {number}")?;
-            }
-            if is_woken && before && !self.is_woken(number.wrapping_add(1)) {
-                write!(f, " to {number}")?;
-            }
-            before = is_woken;
-        }
-        Ok(())
-    }
-}
-
-// What the inits of a schedule answer, and what they went through.
-#[derive(Drop)]
-struct Inits {
-    sure: Stub<u64>,
-    tried: Stub<Tried>,
-    // What an init found that looked at its cell.
-    found: Cell<Option<bool>>,
-}
-
-impl Inits {
-    fn new() -> Self {
-        Inits {
-            sure: Stub::new(),
-            tried: Stub::new(),
-            found: Cell::new(None),
-        }
-    }
-
-    fn set(&self, answer: Option<Tried>) {
-        self.tried.answer.set(answer);
-        self.sure.answer.set(answer.and_then(Result::ok));
-    }
-
-    fn made(&self) -> u64 {
-        self.sure.made.get().wrapping_add(self.tried.made.get())
-    }
-
-    fn polls(&self) -> u64 {
-        self.sure.polls.get().wrapping_add(self.tried.polls.get())
-    }
-
-    fn drops(&self) -> u64 {
-        self.sure.drops.get().wrapping_add(self.tried.drops.get())
-    }
-}
-
-// What the futures of a schedule are made of.
-#[derive(Drop)]
-struct Scene<'a, 'i, R> {
-    rt: &'a R,
-    cell: &'a OnceCell<u64>,
-    lazy: &'a Lazy<u64, Init<'i, u64>>,
-    inits: &'i Inits,
-    tasks: &'a Tasks,
-}
-
-impl<'a, 'i: 'a, R: Wait + AllocGlobal> Scene<'a, 'i, R> {
-    fn new(
-        rt: &'a R,
-        (cell, lazy): (&'a OnceCell<u64>, &'a Lazy<u64, Init<'i, u64>>),
-        (inits, tasks): (&'i Inits, &'a Tasks),
-    ) -> Self {
-        Scene {
-            rt,
-            cell,
-            lazy,
-            inits,
-            tasks,
-        }
-    }
-
-    // A future of this kind. None stands for every other word.
-    fn made(&self, word: &str, wanted: &'a str) -> Option<Made<'a, 'i, R>> {
-        let (rt, cell, inits) = (self.rt, self.cell, self.inits);
-        match word {
-            "init" => Some(Made::Sure(cell.get_or_init(rt, inits.sure.init()))),
-            "try" => Some(Made::Trying(cell.get_or_try_init(rt, inits.tried.init()))),
-            "looks" => Some(Made::Looking(cell.get_or_init(rt, self.looks(wanted)))),
-            "within" => Some(Made::Inside(cell.get_or_init(rt, self.within()))),
-            "get" => Some(Made::Lazily(self.lazy.get(rt))),
-            "unpin" => Some(Made::Lazily(self.lazy.get_unpin(rt))),
-            "into" => Some(Made::Lazily(self.lazy.into_future(rt))),
-            _ => None,
-        }
-    }
-
-    fn looks(&self, wanted: &'a str) -> Looks<'a> {
-        count(&self.inits.sure.made);
-        Looks {
-            cell: self.cell,
-            wanted,
-            found: &self.inits.found,
-            stub: &self.inits.sure,
-        }
-    }
-
-    fn within(&self) -> Within<'a, R> {
-        Within {
-            cell: self.cell,
-            rt: self.rt,
-            stub: &self.inits.sure,
-        }
-    }
-
-    fn shown(&self) -> Result<String, AllocError> {
-        let cell = self.cell;
-        format!(in self.rt.alloc(); "{cell:?}")
-    }
-
-    fn shown_lazy(&self) -> Result<String, AllocError> {
-        let (lazy, value) = (self.lazy, self.lazy.try_get());
-        format!(in self.rt.alloc(); "{value:?}, {lazy:?}")
-    }
-
-    fn counted(&self) -> Result<String, AllocError> {
-        let (polls, drops) = (self.inits.polls(), self.inits.drops());
-        format!(in self.rt.alloc(); "{polls} polls, {drops} drops")
-    }
-
-    fn found(&self) -> Result<String, AllocError> {
-        let found = self.inits.found.get();
-        format!(in self.rt.alloc(); "{found:?}")
-    }
-
-    // What a line led to, with the tasks that were woken since the line before.
-    fn written(&self, outcome: Outcome) -> Result<String, AllocError> {
-        let tasks = self.tasks;
-        let text = format!(in self.rt.alloc(); "{outcome}{tasks}");
-        tasks.calm();
-        text
-    }
-}
-
 // A schedule under way.
 #[derive(Drop)]
-struct Schedule<'a, 'i, R: Wait + AllocGlobal> {
-    scene: Scene<'a, 'i, R>,
-    futures: Vec<Option<Made<'a, 'i, R>>>,
+struct Schedule<'o, 'a, 'i, R: Wait + AllocGlobal> {
+    scene: Scene<'o, 'a, 'i, R>,
+    futures: Vec<Option<Made<'o, 'a, 'i, R>>>,
     // Whether every request for memory is refused while a line is obeyed.
     starves: bool,
     // The number that `n` stands for.
     turn: usize,
 }
 
-impl<'a, 'i: 'a, R: Wait + AllocGlobal> Schedule<'a, 'i, R> {
-    fn new(scene: Scene<'a, 'i, R>) -> Result<Self, AllocError> {
+impl<'o, 'a, 'i: 'o, R: Wait + AllocGlobal> Schedule<'o, 'a, 'i, R> {
+    fn new(scene: Scene<'o, 'a, 'i, R>) -> Result<Self, AllocError> {
         let mut futures = Vec::new(scene.rt.alloc());
         for _ in 0..scene.tasks.tasks.len() {
             futures.push(None)?;
@@ -277,14 +79,14 @@ impl<'a, 'i: 'a, R: Wait + AllocGlobal> Schedule<'a, 'i, R> {
         })
     }
 
-    fn run(&mut self, name: &str, lines: &'a str) -> Result<(), Fail> {
+    fn run(&mut self, name: &str, lines: &'o str) -> Result<(), Fail> {
         for line in lines.lines() {
             self.run_line(name, line)?;
         }
         Ok(())
     }
 
-    fn run_line(&mut self, name: &str, line: &'a str) -> Result<(), Fail> {
+    fn run_line(&mut self, name: &str, line: &'o str) -> Result<(), Fail> {
         let (order, wanted) = line.split_once(" => ").unwrap_or((line, "so"));
         let (turns, order) = order.split_once(" * ").unwrap_or(("1", order));
         let Some((from, to)) = turns_in(turns) else {
@@ -305,13 +107,13 @@ impl<'a, 'i: 'a, R: Wait + AllocGlobal> Schedule<'a, 'i, R> {
         text.parse::<usize>().unwrap_or(usize::MAX)
     }
 
-    fn follow(&mut self, name: &str, order: &'a str, wanted: &str) -> Result<(), Fail> {
+    fn follow(&mut self, name: &str, order: &'o str, wanted: &str) -> Result<(), Fail> {
         let text = self.obey(order);
         compare(name, order, text, wanted)
     }
 
     // What a line leads to.
-    fn obey(&mut self, line: &'a str) -> Result<String, AllocError> {
+    fn obey(&mut self, line: &'o str) -> Result<String, AllocError> {
         let (word, rest) = line.split_once(' ').unwrap_or((line, ""));
         match word {
             "show" => self.scene.shown(),
@@ -319,6 +121,11 @@ impl<'a, 'i: 'a, R: Wait + AllocGlobal> Schedule<'a, 'i, R> {
             "inits" => self.scene.counted(),
             "found" => self.scene.found(),
             "future" => self.shown(rest),
+            "look" => self.scene.looked(),
+            "ask" | "know" => {
+                self.scene.inits.set(answer_in(rest));
+                self.scene.asked(word == "know")
+            }
             _ => {
                 let hoarded = hoarded(self.scene.rt.alloc(), self.starves)?;
                 let outcome = self.act(word, rest);
@@ -336,22 +143,37 @@ impl<'a, 'i: 'a, R: Wait + AllocGlobal> Schedule<'a, 'i, R> {
         }
     }
 
-    fn act(&mut self, word: &str, rest: &'a str) -> Outcome {
+    fn act(&mut self, word: &str, rest: &'o str) -> Outcome {
         match word {
             "starve" => {
                 self.starves = true;
                 Outcome::Obeyed
             }
             "poll" => self.poll(rest),
+            "other" => match self.scene.other.poll() {
+                Some(reply) => Outcome::Polled(reply, false),
+                None => Outcome::Unreadable,
+            },
+            "leave" => self.leave(rest),
             "forget" => self.forget(rest),
             _ => self.make(word, rest),
         }
     }
 
     // The future with this number, or None in its place. No answer says that no future can have the number.
-    fn future(&mut self, number: &str) -> Option<&mut Option<Made<'a, 'i, R>>> {
+    fn future(&mut self, number: &str) -> Option<&mut Option<Made<'o, 'a, 'i, R>>> {
         let number = self.number(number);
         self.futures.get_mut(number)
+    }
+
+    fn leave(&mut self, number: &str) -> Outcome {
+        match self.future(number) {
+            Some(Some(future)) => {
+                future.leave();
+                Outcome::Obeyed
+            }
+            _ => Outcome::Unreadable,
+        }
     }
 
     fn forget(&mut self, number: &str) -> Outcome {
@@ -365,7 +187,7 @@ impl<'a, 'i: 'a, R: Wait + AllocGlobal> Schedule<'a, 'i, R> {
     }
 
     // Makes a future in the place of the one with this number, or drops that.
-    fn make(&mut self, word: &str, rest: &'a str) -> Outcome {
+    fn make(&mut self, word: &str, rest: &'o str) -> Outcome {
         let (number, wanted) = rest.split_once(' ').unwrap_or((rest, ""));
         let made = self.scene.made(word, wanted);
         match self.future(number) {
@@ -431,23 +253,88 @@ fn compare(
     Err(Fail::new(format_args!("{order} in {name} leads to {text}")))
 }
 
-fn run_part<'s, 'i: 's, R>(
-    rt: &'s R,
-    cells: (&'s OnceCell<u64>, &'s Lazy<u64, Init<'i, u64>>),
-    inits_and_tasks: (&'i Inits, &'s Tasks),
-    name: &str,
-    lines: &'s str,
-) -> Result<(), Fail>
-where
-    R: Wait + AllocGlobal,
-{
-    Schedule::new(Scene::new(rt, cells, inits_and_tasks))?.run(name, lines)
+// Whether there were so many.
+fn come_to(what: &str, found: usize, least: usize) -> Result<(), Fail> {
+    if found >= least {
+        return Ok(());
+    }
+    Err(Fail::new(format_args!("{found} {what}, and not {least}")))
 }
 
-// What comes out of the cell, with the tasks that this woke.
-fn taken(alloc: Global, cell: &mut OnceCell<u64>, tasks: &Tasks) -> Result<String, AllocError> {
-    let taken = cell.take();
-    let text = format!(in alloc; "{taken:?}{tasks}");
+// Runs the lines between two calls of the owner.
+fn run_part<'i, R: Wait + AllocGlobal>(
+    rt: &R,
+    cell: &OnceCell<u64>,
+    lazy: &Lazy<u64, Init<'i, u64>>,
+    (inits, tasks): (&'i Inits, &Tasks),
+    (name, lines): (&str, &str),
+) -> Result<(), Fail> {
+    let Some(task) = tasks.tasks.get(1) else {
+        return Ok(());
+    };
+    let other = Other::new(cell, rt, task);
+    let scene = Scene {
+        rt,
+        cell,
+        lazy,
+        other: &other,
+        inits,
+        tasks,
+    };
+    let mut schedule = Schedule::new(scene)?;
+    schedule.run(name, lines)
+}
+
+// Has the owner of a cell write the value: what was lent before.
+fn write(cell: &mut OnceCell<u64>, value: u64) -> Option<u64> {
+    let lent = cell.get().copied();
+    if let Some(place) = cell.get_mut() {
+        *place = value;
+    }
+    lent
+}
+
+// The same of a lazy cell, by both of its calls.
+fn lend(lazy: &mut Lazy<u64, Init<'_, u64>>, value: u64) -> Option<u64> {
+    let lent = lazy.try_get_mut().copied();
+    if let Some(place) = lazy.try_get_mut_unpin() {
+        *place = value;
+    }
+    lent
+}
+
+// What a call of the owner answers.
+fn own<'i>(
+    cell: &mut OnceCell<u64>,
+    lazy: &mut Lazy<u64, Init<'i, u64>>,
+    inits: &'i Inits,
+    order: &str,
+) -> Option<u64> {
+    let (word, number) = order.split_once(' ').unwrap_or((order, ""));
+    let value = number.parse::<u64>().unwrap_or(0);
+    match word {
+        "take" => cell.take(),
+        "write" => write(cell, value),
+        "with" => mem::replace(cell, OnceCell::new_with(value)).into_inner(),
+        "from" => mem::replace(cell, OnceCell::from(value)).into_inner(),
+        "default" => mem::replace(cell, OnceCell::default()).into_inner(),
+        "lend" => lend(lazy, value),
+        "replace" => lazy.replace_and_take(Lazy::with_value(value)),
+        "renew" => lazy.replace_and_take(Lazy::new(inits.sure.init())),
+        _ => None,
+    }
+}
+
+// The same with the tasks that this woke.
+fn owned<'i>(
+    alloc: Global,
+    cell: &mut OnceCell<u64>,
+    lazy: &mut Lazy<u64, Init<'i, u64>>,
+    (inits, tasks): (&'i Inits, &Tasks),
+    order: &str,
+) -> Result<String, AllocError> {
+    let found = own(cell, lazy, inits, order);
+    let text = format!(in alloc; "{found:?}{tasks}");
     tasks.calm();
     text
 }
@@ -462,26 +349,32 @@ fn left(
     format!(in alloc; "{value:?}, {lazy:?}")
 }
 
-// Runs a schedule in parts, between which the owner takes the value out.
+// Runs a schedule in parts, between which the owner calls.
 fn run_parts<'i, R>(
     rt: &R,
     cell: &mut OnceCell<u64>,
-    lazy: &Lazy<u64, Init<'i, u64>>,
+    lazy: &mut Lazy<u64, Init<'i, u64>>,
     (inits, tasks): (&'i Inits, &Tasks),
-    (name, parts): (&str, &str),
+    (name, lines): (&str, &str),
 ) -> Result<(), Fail>
 where
     R: Wait + AllocGlobal,
 {
-    let (first, others) = parts.split_once("take => ").unwrap_or((parts, ""));
-    run_part(rt, (&*cell, lazy), (inits, tasks), name, first)?;
+    let (first, others) = lines.split_once("owner ").unwrap_or((lines, ""));
+    run_part(rt, cell, lazy, (inits, tasks), (name, first))?;
     if others.is_empty() {
         return Ok(());
     }
-    for part in others.split("take => ") {
-        let (wanted, lines) = part.split_once('\n').unwrap_or((part, ""));
-        compare(name, "take", taken(rt.alloc(), cell, tasks), wanted)?;
-        run_part(rt, (&*cell, lazy), (inits, tasks), name, lines)?;
+    for part in others.split("owner ") {
+        let (line, lines) = part.split_once('\n').unwrap_or((part, ""));
+        let (order, wanted) = line.split_once(" => ").unwrap_or((line, ""));
+        compare(
+            name,
+            order,
+            owned(rt.alloc(), cell, lazy, (inits, tasks), order),
+            wanted,
+        )?;
+        run_part(rt, cell, lazy, (inits, tasks), (name, lines))?;
     }
     Ok(())
 }
@@ -493,8 +386,8 @@ where
 {
     let (parts, end) = lines.split_once("end => ").unwrap_or((lines, ""));
     let (tasks, inits) = (Tasks::new(rt, most(lines))?, Inits::new());
-    let (mut cell, lazy) = (OnceCell::new(), Lazy::new(inits.sure.init()));
-    let ran = run_parts(rt, &mut cell, &lazy, (&inits, &tasks), (name, parts));
+    let (mut cell, mut lazy) = (OnceCell::new(), Lazy::new(inits.sure.init()));
+    let ran = run_parts(rt, &mut cell, &mut lazy, (&inits, &tasks), (name, parts));
     let text = left(rt.alloc(), cell, lazy);
     ran?;
     if end.is_empty() {

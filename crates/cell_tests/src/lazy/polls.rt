@@ -34,6 +34,16 @@ poll 1 v5 => v5, done
 drop 1
 inits => 3 polls, 1 drops
 
+# driven_on_after_a_holder_left: a holder whose `leave` is called leaves the future of the cell as it is, and another task drives it on
+get 0
+get 1
+poll 0 p => pending, wakes 0
+leave 0
+future 0 => LazyFuturePin { finished: true }
+inits => 1 polls, 0 drops
+poll 1 v4 => v4, done
+inits => 2 polls, 1 drops
+
 # polled_when_done: a future that is done asks for another poll, and leaves its cell as it is
 get 0
 poll 0 v5 => v5, done
@@ -81,18 +91,12 @@ fn starved(rt: HostRuntime) -> Result<(), Fail> {
     run(&rt, STARVED)
 }
 
-// Each request for memory of these schedules is refused in turn. There are so many at least.
 #[test]
 fn each_request_refused(rt: HostRuntime) -> Result<(), Fail> {
-    let refused = refuse_each(&rt, SCHEDULES)?;
-    assert!(rt; refused >= 3, "{refused}");
-    Ok(())
+    refuse_each(&rt, SCHEDULES, 3)
 }
 
-// No run of these schedules keeps memory. There are so many at least.
 #[test]
 fn no_memory_kept(rt: HostRuntime) -> Result<(), Fail> {
-    let ran = run_in_little(&rt, SCHEDULES)?;
-    assert!(rt; ran >= 5, "{ran}");
-    Ok(())
+    run_in_little(&rt, SCHEDULES, 5)
 }

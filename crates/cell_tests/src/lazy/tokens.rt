@@ -1,7 +1,7 @@
-//! Tokens of a cell that owns its future, and its future's own `poll`.
+//! A token of a cell that owns its future, and its future's own `poll`.
 
 use crate::doubles::poll::heard;
-use crate::doubles::stub::{Init, Stub};
+use crate::doubles::same;
 use async_once_cell::Lazy;
 use async_once_cell::once::Known;
 use async_once_cell::record::Reply;
@@ -11,30 +11,6 @@ use futures::test::MockTask;
 use std::alloc::AllocGlobal;
 use std::sync::Wait;
 use std::test::Fail;
-
-// A token learns the value by a poll, and another by a look. What the poll answered, and whether the
-// two agree between and after.
-fn learn_in_turn<'a, R: Wait + AllocGlobal>(
-    rt: &'a R,
-    cx: &mut Context<'_>,
-    lazy: &'a Lazy<u64, Init<'_, u64>>,
-) -> (Reply, [bool; 2]) {
-    let (mut a, mut b) = (lazy.token(), lazy.token());
-    let reply = heard(lazy.get(rt).poll_as(cx, &mut a));
-    let between = Known::compare(&a, &b);
-    let _ = lazy.try_get_as(&mut b);
-    (reply, [between, Known::compare(&a, &b)])
-}
-
-/// Two tokens agree once both have learned the value, and not before.
-#[test]
-fn tokens_compared(rt: HostRuntime) -> Result<(), Fail> {
-    let (task, stub) = (MockTask::new(&rt)?, Stub::giving(4));
-    let lazy = Lazy::new(stub.init());
-    let learned = task.enter(|cx| learn_in_turn(&rt, cx, &lazy));
-    assert_eq!(rt; learned, (Reply::Value(4), [false, true]));
-    Ok(())
-}
 
 // What a future answers to its own `poll`. The cell's future asks for nothing.
 fn pending_by_its_own_poll<'a, R: Wait + AllocGlobal>(
@@ -51,7 +27,12 @@ fn pending_by_its_own_poll<'a, R: Wait + AllocGlobal>(
 fn pending_poll_wakes_nobody(rt: HostRuntime) -> Result<(), Fail> {
     let (task, lazy) = (MockTask::new(&rt)?, Lazy::new(pending()));
     let told = task.enter(|cx| pending_by_its_own_poll(&rt, cx, &lazy));
-    assert_eq!(rt; (told, task.is_woken()), (Reply::Pending, false));
+    same(
+        &rt,
+        "told",
+        (told, task.is_woken()),
+        (Reply::Pending, false),
+    );
     Ok(())
 }
 
@@ -61,7 +42,7 @@ fn learned_by_a_wait(rt: HostRuntime) -> Result<(), Fail> {
     let lazy = Lazy::new(ready(4u64));
     let mut token = lazy.token();
     let told = lazy.get(&rt).wait_as(&mut token)?;
-    let known = Known::compare(&token, &token);
-    assert_eq!(rt; (told, known), (Ok(&4), true));
+    let is_known = Known::compare(&token, &token);
+    same(&rt, "told", (told.ok().copied(), is_known), (Some(4), true));
     Ok(())
 }

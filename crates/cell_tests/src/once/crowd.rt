@@ -1,46 +1,42 @@
 //! A crowd that waits for one value.
 
-use crate::doubles::poll::polled;
+use crate::doubles::poll::{polled, tasks};
+use crate::doubles::same;
 use crate::doubles::stub::Stub;
 use async_once_cell::OnceCell;
 use async_once_cell::once::InitFuture;
 use async_once_cell::record::Reply;
 use futures::future::{Ready, ready};
 use futures::test::MockTask;
-use std::alloc::AllocGlobal;
-use std::io;
-use std::random::RandomSource;
+use std::alloc::{AllocError, AllocGlobal};
 use std::sync::Wait;
 use std::test::Fail;
 
 // More than a number of sixteen bits can say.
 const CROWD: usize = 70_000;
 
-// One of the crowd.
-#[derive(Drop)]
-struct Member<'a, R: Wait + AllocGlobal> {
-    task: MockTask,
-    future: InitFuture<'a, u64, Ready<u64>, R>,
-}
+// The future of one of the crowd.
+type Member<'a, R> = InitFuture<'a, u64, Ready<u64>, R>;
 
-fn members<'a, R: Wait + AllocGlobal + RandomSource>(
+fn members<'a, R: Wait + AllocGlobal>(
     rt: &'a R,
     cell: &'a OnceCell<u64>,
-) -> io::Result<Vec<Member<'a, R>>> {
+) -> Result<Vec<Member<'a, R>>, AllocError> {
     let mut members = Vec::new(rt.alloc());
     for _ in 0..CROWD {
-        members.push(Member {
-            task: MockTask::new(rt)?,
-            future: cell.get_or_init(rt, ready(9)),
-        })?;
+        members.push(cell.get_or_init(rt, ready(9)))?;
     }
     Ok(members)
 }
 
-// How many are told this, if each is polled once.
-fn told<R: Wait + AllocGlobal>(members: &mut [Member<'_, R>], wanted: Reply) -> usize {
+// How many are told this, if each is polled once by its task.
+fn told<R: Wait + AllocGlobal>(
+    members: &mut [Member<'_, R>],
+    tasks: &[MockTask],
+    wanted: Reply,
+) -> usize {
     let mut told = 0usize;
-    for Member { task, future } in members {
+    for (future, task) in members.iter_mut().zip(tasks) {
         if polled(task, future) == wanted {
             told = told.saturating_add(1);
         }
@@ -48,27 +44,26 @@ fn told<R: Wait + AllocGlobal>(members: &mut [Member<'_, R>], wanted: Reply) -> 
     told
 }
 
-// How many were woken since they were polled.
-fn called<R: Wait + AllocGlobal>(members: &[Member<'_, R>]) -> usize {
-    members.iter().filter(|it| it.task.is_woken()).count()
-}
-
 /// However many wait, each is woken by the value, and is told it.
 #[test]
 fn value_for_a_crowd(rt: HostRuntime) -> Result<(), Fail> {
     let (task, stub, cell) = (MockTask::new(&rt)?, Stub::new(), OnceCell::new());
+    let tasks = tasks(&rt, CROWD)?;
+    let mut members = members(&rt, &cell)?;
     let mut holder = cell.get_or_init(&rt, stub.init());
     let is_held = task.poll(&mut holder).is_pending();
-    let mut members = members(&rt, &cell)?;
-    let waiting = told(&mut members, Reply::Pending);
-    let before = called(&members);
+    let waiting = told(&mut members, &tasks, Reply::Pending);
+    let before = tasks.iter().filter(|it| it.is_woken()).count();
     stub.answer.set(Some(4));
     let is_filled = task.poll(&mut holder).is_ready();
-    let counts = [waiting, before, called(&members)];
-    let told = told(&mut members, Reply::Value(4));
-    assert_eq!(rt;
-        (is_held, is_filled, counts, told),
-        (true, true, [CROWD, 0, CROWD], CROWD)
+    let called = tasks.iter().filter(|it| it.is_woken()).count();
+    let told = told(&mut members, &tasks, Reply::Value(4));
+    same(&rt, "held and filled", [is_held, is_filled], [true, true]);
+    same(
+        &rt,
+        "waiting, called before and after, told",
+        [waiting, before, called, told],
+        [CROWD, 0, CROWD, CROWD],
     );
     Ok(())
 }

@@ -1,5 +1,6 @@
 //! When values are dropped.
 
+use crate::doubles::same;
 use crate::doubles::value::{Makes, Value};
 use async_once_cell::OnceCell;
 use async_once_cell::once::InitFuture;
@@ -11,27 +12,28 @@ use std::cell::Cell;
 use std::sync::Wait;
 use std::test::Fail;
 
-// Whether a value was made, was lent and was taken, and how often it was dropped before it was taken,
-// after that, and with its cell.
-fn taken<R: Wait + AllocGlobal>(rt: &R, task: &MockTask) -> ([bool; 3], [u64; 3]) {
-    let drops = Cell::new(0);
-    let mut cell = OnceCell::new();
-    let mut f = cell.get_or_init(rt, Makes { drops: &drops });
-    let is_ready = task.poll(&mut f).is_ready();
-    drop(f);
-    let (is_lent, before) = (cell.get().is_some(), drops.get());
-    let is_taken = cell.take().is_some();
-    let after = drops.get();
-    drop(cell);
-    ([is_ready, is_lent, is_taken], [before, after, drops.get()])
+// A cell that a future gave a value, which counts here when it is dropped.
+fn filled<'d, R: Wait + AllocGlobal>(
+    rt: &R,
+    task: &MockTask,
+    drops: &'d Cell<u64>,
+) -> OnceCell<Value<'d>> {
+    let cell = OnceCell::new();
+    let _ = task.poll(&mut cell.get_or_init(rt, Makes { drops }));
+    cell
 }
 
 /// A value lives until its owner takes it.
 #[test]
 fn value_taken(rt: HostRuntime) -> Result<(), Fail> {
-    let task = MockTask::new(&rt)?;
-    let taken = taken(&rt, &task);
-    assert_eq!(rt; taken, ([true; 3], [0, 1, 1]));
+    let (task, drops) = (MockTask::new(&rt)?, Cell::new(0));
+    let mut cell = filled(&rt, &task, &drops);
+    let (is_lent, before) = (cell.get().is_some(), drops.get());
+    let is_taken = cell.take().is_some();
+    let after = drops.get();
+    drop(cell);
+    same(&rt, "lent and taken", [is_lent, is_taken], [true, true]);
+    same(&rt, "drops", [before, after, drops.get()], [0, 1, 1]);
     Ok(())
 }
 
@@ -42,30 +44,20 @@ fn value_dropped_with_the_cell(rt: HostRuntime) {
     let cell = OnceCell::new_with(Value { drops: &drops });
     let before = drops.get();
     drop(cell);
-    assert_eq!(rt; [before, drops.get()], [0, 1]);
+    same(&rt, "drops", [before, drops.get()], [0, 1]);
 }
 
-// Whether a value was made and lent for writing twice, and how often it was dropped before its cell was
-// dropped, and with it.
-fn lent_for_writing<R: Wait + AllocGlobal>(rt: &R, task: &MockTask) -> ([bool; 3], [u64; 2]) {
-    let drops = Cell::new(0);
-    let mut cell = OnceCell::new();
-    let mut f = cell.get_or_init(rt, Makes { drops: &drops });
-    let is_ready = task.poll(&mut f).is_ready();
-    drop(f);
+/// So does a value that its owner may write.
+#[test]
+fn value_lent_for_writing(rt: HostRuntime) -> Result<(), Fail> {
+    let (task, drops) = (MockTask::new(&rt)?, Cell::new(0));
+    let mut cell = filled(&rt, &task, &drops);
     let is_lent = cell.get_mut().is_some();
     let is_lent_again = cell.get_mut().is_some();
     let before = drops.get();
     drop(cell);
-    ([is_ready, is_lent, is_lent_again], [before, drops.get()])
-}
-
-/// A value that its owner may write lives as long as its cell.
-#[test]
-fn value_lent_for_writing(rt: HostRuntime) -> Result<(), Fail> {
-    let task = MockTask::new(&rt)?;
-    let lent = lent_for_writing(&rt, &task);
-    assert_eq!(rt; lent, ([true; 3], [0, 1]));
+    same(&rt, "lent", [is_lent, is_lent_again], [true, true]);
+    same(&rt, "drops", [before, drops.get()], [0, 1]);
     Ok(())
 }
 
@@ -123,6 +115,12 @@ fn value_dropped_once_where_memory_is_refused(rt: HostRuntime) -> Result<(), Fai
         are_so &= made_after(&rt, &tasks, &mut rations)? == (true, [0, 1]);
     }
     drop(held);
-    assert_eq!(rt; (are_so, rations.requests().len() >= 4), (true, true));
+    let are_many = rations.requests().len() >= 4;
+    same(
+        &rt,
+        "dropped once, each time",
+        [are_so, are_many],
+        [true, true],
+    );
     Ok(())
 }

@@ -1,8 +1,11 @@
 //! What a cell that is set shows while the init of a future is dropped that waits and leaves.
 ghost use Rattle.std.specs.Prelude.{◌≡◌, IfSome, false};
 
+use crate::doubles::expected::is_shown;
 use crate::doubles::made::Looks;
 use crate::doubles::poll::heard;
+use crate::doubles::same;
+use crate::doubles::schedule::run;
 use crate::doubles::stub::Stub;
 use async_once_cell::OnceCell;
 use async_once_cell::once::InitFuture;
@@ -14,23 +17,48 @@ use std::cell::Cell;
 use std::sync::Wait;
 use std::test::Fail;
 
+const DROPPED: &str = "\
+# dropped: a future that is dropped drops its init, and then leaves
+init 0
+looks 1 OnceCell { value: Some(2), inner: Inner { ready: true, quick_init: false, refcount: 1, queue: true } }
+poll 0 p => pending, wakes 0
+poll 1 p => pending
+poll 0 v2 => v2, done, wakes 1
+found => None
+drop 1
+found => Some(true)
+show => OnceCell { value: Some(2), inner: Inner { ready: true, quick_init: false, refcount: 0, queue: false } }";
+
+const CALLED: &str = "\
+# called: so does one whose `leave` is called
+init 0
+looks 1 OnceCell { value: Some(2), inner: Inner { ready: true, quick_init: false, refcount: 1, queue: true } }
+poll 0 p => pending, wakes 0
+poll 1 p => pending
+poll 0 v2 => v2, done, wakes 1
+found => None
+leave 1
+found => Some(true)
+future 1 => Initializing { finished: true }
+show => OnceCell { value: Some(2), inner: Inner { ready: true, quick_init: false, refcount: 0, queue: false } }";
+
+#[test]
+fn init_dropped_before_its_future_leaves(rt: HostRuntime) -> Result<(), Fail> {
+    run(&rt, DROPPED)
+}
+
+#[test]
+fn init_dropped_before_a_call_leaves(rt: HostRuntime) -> Result<(), Fail> {
+    run(&rt, CALLED)
+}
+
 // The value is set, and the future that leaves is counted still.
 const COUNTED: &str =
     "OnceCell { value: Some(2), inner: Inner { ready: true, quick_init: false, refcount: 1, queue: true } }";
 
-// An init that notes whether its future is counted still when it is dropped.
-fn looks<'a>(
-    cell: &'a OnceCell<u64>,
-    found: &'a Cell<Option<bool>>,
-    stub: &'a Stub<u64>,
-) -> Looks<'a> {
-    Looks {
-        cell,
-        wanted: COUNTED,
-        found,
-        stub,
-    }
-}
+// Nobody is counted any more.
+const LEFT: &str =
+    "OnceCell { value: Some(2), inner: Inner { ready: true, quick_init: false, refcount: 0, queue: false } }";
 
 // A future that waits, while another sets the value of the cell to 2. None if it does not wait.
 fn waiter<'a, R: Wait + AllocGlobal>(
@@ -53,31 +81,6 @@ fn waiter<'a, R: Wait + AllocGlobal>(
     Some(waiter)
 }
 
-// What the init of a future that waits has noted before the future is dropped, and after.
-fn left_by_a_drop<'a, R: Wait + AllocGlobal>(
-    rt: &'a R,
-    looks: Looks<'a>,
-    cx: &mut Context<'_>,
-) -> Option<[Option<bool>; 2]> {
-    let (cell, found) = (looks.cell, looks.found);
-    let waiter = waiter(rt, cell, looks, cx)?;
-    let before = found.get();
-    drop(waiter);
-    Some([before, found.get()])
-}
-
-// What the init of a future that waits has noted once `leave` of the future was called.
-fn left_by_a_call<'a, R: Wait + AllocGlobal>(
-    rt: &'a R,
-    looks: Looks<'a>,
-    cx: &mut Context<'_>,
-) -> Option<Option<bool>> {
-    let (cell, found) = (looks.cell, looks.found);
-    let mut waiter = waiter(rt, cell, looks, cx)?;
-    waiter.leave();
-    Some(found.get())
-}
-
 // What a poll with a token that knows the value answers to a future that waits, and what its init has noted then.
 fn left_by_a_poll<'a, R: Wait + AllocGlobal>(
     rt: &'a R,
@@ -92,35 +95,21 @@ fn left_by_a_poll<'a, R: Wait + AllocGlobal>(
     Some((told, found.get()))
 }
 
-/// A future that is dropped drops its init, and then leaves.
-#[test]
-fn init_dropped_before_its_future_leaves(rt: HostRuntime) -> Result<(), Fail> {
-    let (task, cell, found) = (MockTask::new(&rt)?, OnceCell::new(), Cell::new(None));
-    let stub = Stub::new();
-    let looks = looks(&cell, &found, &stub);
-    let noted = task.enter(|cx| left_by_a_drop(&rt, looks, cx));
-    assert_eq!(rt; noted, Some([None, Some(true)]));
-    Ok(())
-}
-
-/// So does one that is polled with a token that knows the value.
+/// A future that waits leaves its cell when it is polled with a token that knows the value. Its init is not polled
+/// again, and is dropped before it leaves.
 #[test]
 fn init_dropped_before_a_knowing_poll_leaves(rt: HostRuntime) -> Result<(), Fail> {
     let (task, cell, found) = (MockTask::new(&rt)?, OnceCell::new(), Cell::new(None));
     let stub = Stub::new();
-    let looks = looks(&cell, &found, &stub);
+    let looks = Looks {
+        cell: &cell,
+        wanted: COUNTED,
+        found: &found,
+        stub: &stub,
+    };
     let told = task.enter(|cx| left_by_a_poll(&rt, looks, cx));
-    assert_eq!(rt; told, Some((Reply::Value(2), Some(true))));
-    Ok(())
-}
-
-/// So does one whose `leave` is called.
-#[test]
-fn init_dropped_before_a_call_leaves(rt: HostRuntime) -> Result<(), Fail> {
-    let (task, cell, found) = (MockTask::new(&rt)?, OnceCell::new(), Cell::new(None));
-    let stub = Stub::new();
-    let looks = looks(&cell, &found, &stub);
-    let noted = task.enter(|cx| left_by_a_call(&rt, looks, cx));
-    assert_eq!(rt; noted, Some(Some(true)));
+    let is_left = is_shown(&cell, LEFT);
+    same(&rt, "told", told, Some((Reply::Value(2), Some(true))));
+    same(&rt, "left", (is_left, stub.counts()), (true, (0, 1)));
     Ok(())
 }

@@ -1,5 +1,6 @@
 //! In which order a value wakes those that wait.
 
+use crate::doubles::same;
 use crate::doubles::stub::Stub;
 use async_once_cell::OnceCell;
 use async_once_cell::once::InitFuture;
@@ -51,6 +52,6 @@ fn called_as_they_were_listed(rt: HostRuntime) -> Result<(), Fail> {
     let is_filled = task.poll(&mut holder).is_ready();
     let order = [called(&rt, &queue), called(&rt, &queue)];
     let is_so = is_held && are_listed && is_filled;
-    assert_eq!(rt; (is_so, order), (true, [Some(0), Some(1)]));
+    same(&rt, "order", (is_so, order), (true, [Some(0), Some(1)]));
     Ok(())
 }

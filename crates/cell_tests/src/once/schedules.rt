@@ -201,10 +201,11 @@ found => Some(true)
 show => OnceCell { value: Some(4), inner: Inner { ready: true, quick_init: false, refcount: 0, queue: false } }
 
 # polled_within_the_init: a second future waits within the init while the cell is empty, and then the init fills it
-within 0
-poll 0 v7 => v6, done, wakes 0
+uses 0 visit
+poll 0 v6 => v6, done, wakes 1
+found => Pending
 drop 0
-inits => 0 polls, 1 drops
+inits => 1 polls, 1 drops
 show => OnceCell { value: Some(6), inner: Inner { ready: true, quick_init: false, refcount: 0, queue: false } }
 
 # futures_shown: a future says whether it is finished
@@ -221,7 +222,7 @@ future 1 => Initializing { finished: true }
 # filled_twice: a cell whose value was taken is filled again as a new one is
 init 0
 poll 0 v5 => v5, done
-take => Some(5)
+owner take => Some(5)
 init 0
 poll 0 v8 => v8, done
 end => Some(8), None
@@ -234,7 +235,7 @@ poll 1 p => pending
 drop 1 => so, wakes 1
 forget 0
 show => OnceCell { value: None, inner: Inner { ready: false, quick_init: true, refcount: 0, queue: true } }
-take => None
+owner take => None
 show => OnceCell { value: None, inner: Inner { ready: false, quick_init: false, refcount: 0, queue: false } }
 init 0
 poll 0 v3 => v3, done";
@@ -324,18 +325,12 @@ fn starved(rt: HostRuntime) -> Result<(), Fail> {
     run(&rt, STARVED)
 }
 
-// Each request for memory of these schedules is refused in turn. There are so many at least.
 #[test]
 fn each_request_refused(rt: HostRuntime) -> Result<(), Fail> {
-    let refused = refuse_each(&rt, SCHEDULES)?;
-    assert!(rt; refused >= 30, "{refused}");
-    Ok(())
+    refuse_each(&rt, SCHEDULES, 30)
 }
 
-// No run of these schedules keeps memory. There are so many at least.
 #[test]
 fn no_memory_kept(rt: HostRuntime) -> Result<(), Fail> {
-    let ran = run_in_little(&rt, SCHEDULES)?;
-    assert!(rt; ran >= 12, "{ran}");
-    Ok(())
+    run_in_little(&rt, SCHEDULES, 12)
 }

@@ -1,8 +1,9 @@
 //! Two futures that find no queue at the door. One puts its queue there while the other asks for memory for its own.
 
-use super::inside::{LATER, Other};
-use crate::doubles::poll::{polled, tasks};
-use crate::left::is_filled;
+use crate::doubles::expected::is_shown;
+use crate::doubles::other::{LATER, Other};
+use crate::doubles::poll::polled;
+use crate::doubles::same;
 use async_once_cell::OnceCell;
 use async_once_cell::record::Reply;
 use futures::test::MockTask;
@@ -13,14 +14,14 @@ use std::test::Fail;
 
 // A handle by which another future is polled before it gives memory for the first time.
 #[derive(Drop)]
-struct Delayed<'o, 'a, 't, R: Wait + AllocGlobal> {
+struct Delayed<'o, 'a, R: Wait + AllocGlobal> {
     alloc: Global,
-    other: &'o Other<'a, 't, R>,
+    other: &'o Other<'a, R>,
 }
 
-impl<R: Wait + AllocGlobal> Wait for Delayed<'_, '_, '_, R> {}
+impl<R: Wait + AllocGlobal> Wait for Delayed<'_, '_, R> {}
 
-impl<R: Wait + AllocGlobal> Alloc for Delayed<'_, '_, '_, R> {
+impl<R: Wait + AllocGlobal> Alloc for Delayed<'_, '_, R> {
     type A = Global;
 
     fn alloc(&self) -> Global {
@@ -31,23 +32,19 @@ impl<R: Wait + AllocGlobal> Alloc for Delayed<'_, '_, '_, R> {
     }
 }
 
-/// What three futures of a cell answer: the holder, one whose queue comes second, and the one whose queue it finds.
-#[derive(Clone, Copy, Debug, PartialEq)]
-struct Replies {
-    waiting: [Option<Reply>; 3],
-    filled: [Option<Reply>; 3],
-}
+const PENDING: Option<Reply> = Some(Reply::Pending);
 
-const MET: Replies = Replies {
-    waiting: [Some(Reply::Pending); 3],
-    filled: [Some(Reply::Value(4)); 3],
-};
+const VALUE: Option<Reply> = Some(Reply::Value(4));
 
-// The replies, and whether nothing is left at the cell.
+const FILLED: &str =
+    "OnceCell { value: Some(4), inner: Inner { ready: true, quick_init: false, refcount: 0, queue: false } }";
+
+// What three futures of a cell answer twice: the holder, one whose queue comes second, and the one whose queue it finds.
+// And whether nothing is left at the cell.
 fn met_at_the_door<R: Wait + AllocGlobal>(
     rt: &R,
     [one, two, three]: [&MockTask; 3],
-) -> (Replies, bool) {
+) -> ([Option<Reply>; 6], bool) {
     let cell = OnceCell::new();
     let mut holder = cell.get_or_init(rt, LATER);
     let other = Other::new(&cell, rt, three);
@@ -56,18 +53,18 @@ fn met_at_the_door<R: Wait + AllocGlobal>(
         other: &other,
     };
     let mut second = cell.get_or_init(&delayed, LATER);
-    let waiting = [
+    let replies = [
         Some(polled(one, &mut holder)),
         Some(polled(two, &mut second)),
         other.heard.get(),
-    ];
-    let filled = [
         Some(polled(one, &mut holder)),
         Some(polled(two, &mut second)),
         other.poll(),
     ];
-    (Replies { waiting, filled }, is_filled(rt, &cell))
+    (replies, is_shown(&cell, FILLED))
 }
+
+const MET: [Option<Reply>; 6] = [PENDING, PENDING, PENDING, VALUE, VALUE, VALUE];
 
 // How often they meet, in how many bytes: if a queue were kept each time, that would be more.
 const TIMES: u64 = 4_100;
@@ -89,6 +86,6 @@ fn second_queue_is_let_go(rt: HostRuntime) -> Result<(), Fail> {
     }
     drop(rest);
     drop(most);
-    assert!(rt; is_always);
+    same(&rt, "met each time", is_always, true);
     Ok(())
 }

@@ -209,18 +209,12 @@ fn starved(rt: HostRuntime) -> Result<(), Fail> {
     run(&rt, STARVED)
 }
 
-// Each request for memory of these schedules is refused in turn. There are so many at least.
 #[test]
 fn each_request_refused(rt: HostRuntime) -> Result<(), Fail> {
-    let refused = refuse_each(&rt, TURNS)?;
-    assert!(rt; refused >= 36, "{refused}");
-    Ok(())
+    refuse_each(&rt, TURNS, 36)
 }
 
-// No run of these schedules keeps memory. There are so many at least.
 #[test]
 fn no_memory_kept(rt: HostRuntime) -> Result<(), Fail> {
-    let ran = run_in_little(&rt, TURNS)?;
-    assert!(rt; ran >= 10, "{ran}");
-    Ok(())
+    run_in_little(&rt, TURNS, 10)
 }

@@ -1,5 +1,6 @@
 //! Waits of one thread.
 
+use crate::doubles::same;
 use async_once_cell::OnceCell;
 use futures::Future;
 use futures::task::{Context, Poll};
@@ -33,6 +34,6 @@ impl Future for Slow {
 fn wait_of_many_polls(rt: HostRuntime) -> Result<(), Fail> {
     let cell = OnceCell::new();
     let told = cell.get_or_init(&rt, Slow { left: POLLS }).wait()?;
-    assert_eq!(rt; told, Ok(&4));
+    same(&rt, "told", told.map(|value| *value), Ok(4));
     Ok(())
 }

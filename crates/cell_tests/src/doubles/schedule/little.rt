@@ -1,6 +1,6 @@
 //! Schedules that run again and again in little memory.
 
-use super::{most, named, run_one};
+use super::{come_to, most, named, run_one};
 use machine_tests::doubles::memory::{hoard_most, hoard_rest};
 use std::alloc::AllocGlobal;
 use std::random::RandomSource;
@@ -34,11 +34,9 @@ where
     Ok(())
 }
 
-/// Runs each schedule four thousand times in memory that would not last if a run kept any.
-///
-/// How many schedules were run. One is passed over in which a future is forgotten, memory is short anyway, or more
-/// than a dozen futures wait.
-pub fn run_in_little<R>(rt: &R, schedules: &str) -> Result<usize, Fail>
+/// Runs each schedule four thousand times in memory that would not last if a run kept any. So many have to be run at
+/// least: one is passed over in which a future is forgotten, memory is short anyway, or more than a dozen futures wait.
+pub fn run_in_little<R>(rt: &R, schedules: &str, least: usize) -> Result<(), Fail>
 where
     R: Wait + AllocGlobal + RandomSource,
 {
@@ -52,5 +50,5 @@ where
         }
     }
     drop(held);
-    Ok(ran)
+    come_to("schedules", ran, least)
 }

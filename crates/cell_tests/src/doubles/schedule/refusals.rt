@@ -1,7 +1,9 @@
 //! Schedules of which each request for memory is refused in turn.
 
-use super::{Inits, Scene, Schedule, Tasks, most, named, turns_in};
+use super::scene::{Inits, Scene, Tasks};
+use super::{Schedule, come_to, most, named, turns_in};
 use crate::doubles::made::Made;
+use crate::doubles::other::Other;
 use crate::doubles::poll::wake;
 use crate::doubles::stub::Init;
 use async_once_cell::record::Reply;
@@ -24,9 +26,9 @@ const LEFT: [&str; 3] = [
     "ready: false, quick_init: false, refcount: 0, queue: true } }",
 ];
 
-impl<'a, 'i: 'a, R: Wait + AllocGlobal> Schedule<'a, 'i, R> {
+impl<'o, 'a, 'i: 'o, R: Wait + AllocGlobal> Schedule<'o, 'a, 'i, R> {
     // Makes, polls and drops futures as the lines say, each with its ration of memory.
-    fn run_rationed(&mut self, lines: &'a str, rations: &mut Rations) -> Result<(), AllocError> {
+    fn run_rationed(&mut self, lines: &'o str, rations: &mut Rations) -> Result<(), AllocError> {
         for line in lines.lines() {
             let (order, _) = line.split_once(" => ").unwrap_or((line, ""));
             let (turns, order) = order.split_once(" * ").unwrap_or(("1", order));
@@ -44,7 +46,7 @@ impl<'a, 'i: 'a, R: Wait + AllocGlobal> Schedule<'a, 'i, R> {
     fn act_rationed(
         &mut self,
         word: &str,
-        rest: &'a str,
+        rest: &'o str,
         rations: &mut Rations,
     ) -> Result<(), AllocError> {
         let (number, _) = rest.split_once(' ').unwrap_or((rest, ""));
@@ -77,7 +79,7 @@ impl<'a, 'i: 'a, R: Wait + AllocGlobal> Schedule<'a, 'i, R> {
     }
 }
 
-impl<'a, 'i: 'a, R: Wait + AllocGlobal> Scene<'a, 'i, R> {
+impl<'o, 'a, 'i: 'o, R: Wait + AllocGlobal> Scene<'o, 'a, 'i, R> {
     // Whether nobody is left in the cells, and a new future of each has its value.
     fn works(&self) -> Result<bool, AllocError> {
         let are_left = is_left(self.shown()?.as_str()) && is_left(self.shown_lazy()?.as_str());
@@ -96,7 +98,7 @@ impl<'a, 'i: 'a, R: Wait + AllocGlobal> Scene<'a, 'i, R> {
 }
 
 // Polls a future that is not finished, if its task was woken.
-fn poll_woken<R: Wait + AllocGlobal>(future: &mut Option<Made<'_, '_, R>>, task: &MockTask) {
+fn poll_woken<R: Wait + AllocGlobal>(future: &mut Option<Made<'_, '_, '_, R>>, task: &MockTask) {
     if let Some(future) = future {
         if task.is_woken() && !future.is_finished() {
             future.polled(task);
@@ -105,7 +107,7 @@ fn poll_woken<R: Wait + AllocGlobal>(future: &mut Option<Made<'_, '_, R>>, task:
 }
 
 // Polls a future once and drops it: what it answered.
-fn answer_of<R: Wait + AllocGlobal>(mut made: Made<'_, '_, R>, task: &MockTask) -> Reply {
+fn answer_of<R: Wait + AllocGlobal>(mut made: Made<'_, '_, '_, R>, task: &MockTask) -> Reply {
     made.polled(task).0
 }
 
@@ -115,17 +117,26 @@ fn is_left(text: &str) -> bool {
 }
 
 // Runs a schedule with rations: whether nobody waits in vain, and the cells still work.
-fn works_after<'s, 'i: 's, R>(
-    rt: &'s R,
-    cells: (&'s OnceCell<u64>, &'s Lazy<u64, Init<'i, u64>>),
-    inits_and_tasks: (&'i Inits, &'s Tasks),
-    lines: &'s str,
+fn works_after<'i, R: Wait + AllocGlobal>(
+    rt: &R,
+    (cell, lazy): (&OnceCell<u64>, &Lazy<u64, Init<'i, u64>>),
+    (inits, tasks): (&'i Inits, &Tasks),
+    lines: &str,
     rations: &mut Rations,
-) -> Result<bool, AllocError>
-where
-    R: Wait + AllocGlobal,
-{
-    let mut schedule = Schedule::new(Scene::new(rt, cells, inits_and_tasks))?;
+) -> Result<bool, AllocError> {
+    let Some(task) = tasks.tasks.get(1) else {
+        return Ok(false);
+    };
+    let other = Other::new(cell, rt, task);
+    let scene = Scene {
+        rt,
+        cell,
+        lazy,
+        other: &other,
+        inits,
+        tasks,
+    };
+    let mut schedule = Schedule::new(scene)?;
     schedule.run_rationed(lines, rations)?;
     let settles = schedule.settles();
     schedule.futures.clear();
@@ -179,7 +190,7 @@ fn is_plain(lines: &str) -> bool {
         let (_, order) = order.split_once(" * ").unwrap_or(("", order));
         match order.split_once(' ').unwrap_or((order, "")).0 {
             "poll" => order.split(' ').count() == 3,
-            "starve" | "take" | "forget" | "end" => false,
+            "starve" | "owner" | "forget" | "end" => false,
             _ => true,
         }
     })
@@ -189,9 +200,9 @@ fn is_plain(lines: &str) -> bool {
 /// stands after `=>`. After that nobody may wait in vain: a future that is woken is polled, until none is, and
 /// then all are finished. The cells show nobody, and a new future has their value. Each init is dropped once.
 ///
-/// How many requests were refused. A schedule is passed over in which a future is forgotten or is polled by
-/// another's task, memory is short anyway, the owner takes the value, or more than a hundred futures wait.
-pub fn refuse_each<R>(rt: &R, schedules: &str) -> Result<usize, Fail>
+/// So many requests have to be refused at least. A schedule is passed over in which a future is forgotten or is polled
+/// by another's task, memory is short anyway, the owner calls, or more than a hundred futures wait.
+pub fn refuse_each<R>(rt: &R, schedules: &str, least: usize) -> Result<(), Fail>
 where
     R: Wait + AllocGlobal + RandomSource,
 {
@@ -204,5 +215,5 @@ where
         }
     }
     drop(held);
-    Ok(refused)
+    come_to("requests", refused, least)
 }

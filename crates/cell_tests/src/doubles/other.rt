@@ -1,0 +1,142 @@
+//! Another future of a cell, which an init polls or drops when it is polled or dropped itself.
+
+use crate::doubles::poll::polled;
+use crate::doubles::stub::{Stub, Tried, count};
+use async_once_cell::OnceCell;
+use async_once_cell::once::InitFuture;
+use async_once_cell::record::Reply;
+use futures::Future;
+use futures::task::{Context, Poll};
+use futures::test::MockTask;
+use std::alloc::AllocGlobal;
+use std::cell::Cell;
+use std::mem::replace;
+use std::sync::{Mutex, Wait};
+
+/// An init that is Pending once, and then gives 4.
+#[derive(Drop)]
+pub struct Later {
+    was_polled: bool,
+}
+
+impl Future for Later {
+    type Output = u64;
+
+    fn poll(&mut self, cx: &mut Context<'_>) -> Poll<u64> {
+        if replace(&mut self.was_polled, true) {
+            return Poll::Ready(4);
+        }
+        cx.yield_now()
+    }
+}
+
+pub const LATER: Later = Later { was_polled: false };
+
+/// Another future of a cell, with a task of its own.
+#[derive(Drop)]
+pub struct Other<'a, R: Wait + AllocGlobal> {
+    rt: &'a R,
+    cell: &'a OnceCell<u64>,
+    task: &'a MockTask,
+    future: Mutex<Option<InitFuture<'a, u64, Later, R>>>,
+    /// What its last poll answered.
+    pub heard: Cell<Option<Reply>>,
+}
+
+impl<'a, R: Wait + AllocGlobal> Other<'a, R> {
+    pub fn new(cell: &'a OnceCell<u64>, rt: &'a R, task: &'a MockTask) -> Self {
+        Other {
+            rt,
+            cell,
+            task,
+            future: Mutex::new(Some(cell.get_or_init(rt, LATER))),
+            heard: Cell::new(None),
+        }
+    }
+
+    // Takes the future out, so that the lock is free while it is polled or dropped.
+    fn take_out(&self) -> Option<InitFuture<'a, u64, Later, R>> {
+        self.future.lock(self.rt).take()
+    }
+
+    /// Polls it, and answers what it did.
+    pub fn poll(&self) -> Option<Reply> {
+        let mut future = self.take_out()?;
+        let reply = polled(self.task, &mut future);
+        *self.future.lock(self.rt) = Some(future);
+        self.heard.set(Some(reply));
+        Some(reply)
+    }
+
+    // Polls it and drops it. That nothing was heard stands for a cell that was set between.
+    fn visit(&self) {
+        self.poll();
+        if self.cell.get().is_some() {
+            self.heard.set(None);
+        }
+        drop(self.take_out());
+    }
+
+    fn obey(&self, act: &str) {
+        match act {
+            "poll" => {
+                self.poll();
+            }
+            "drop" => drop(self.take_out()),
+            "visit" => self.visit(),
+            _ => {}
+        }
+    }
+}
+
+/// An init that uses another future of its cell, and else does as its stub says. It may `poll` the other, `drop` it, or
+/// `visit` it, which is both.
+pub struct Meddling<'o, 'a, R: Wait + AllocGlobal> {
+    other: &'o Other<'a, R>,
+    stub: &'o Stub<Tried>,
+    // What it does in each poll, a word for each.
+    acts: &'o str,
+    // What it does when it is dropped.
+    last: &'o str,
+}
+
+impl<'o, 'a, R: Wait + AllocGlobal> Meddling<'o, 'a, R> {
+    /// One that does so: a word for each poll, and after `; ` one for its drop.
+    pub fn new(other: &'o Other<'a, R>, stub: &'o Stub<Tried>, plan: &'o str) -> Self {
+        count(&stub.made);
+        let (acts, last) = plan.split_once("; ").unwrap_or((plan, ""));
+        Meddling {
+            other,
+            stub,
+            acts,
+            last,
+        }
+    }
+}
+
+impl<R: Wait + AllocGlobal> Future for Meddling<'_, '_, R> {
+    type Output = Tried;
+
+    fn poll(&mut self, cx: &mut Context<'_>) -> Poll<Tried> {
+        let (act, rest) = self.acts.split_once(' ').unwrap_or((self.acts, ""));
+        self.acts = rest;
+        self.other.obey(act);
+        match self.stub.asked() {
+            Some(answer) => Poll::Ready(answer),
+            None => cx.yield_now(),
+        }
+    }
+}
+
+impl<R: Wait + AllocGlobal> Drop for Meddling<'_, '_, R> {
+    fn drop(self) {
+        let Meddling {
+            other,
+            stub,
+            acts: _,
+            last,
+        } = self;
+        count(&stub.drops);
+        other.obey(last);
+    }
+}

@@ -1,0 +1,228 @@
+//! What a schedule is about: the tasks, the inits and the cells, and what they show.
+
+use crate::doubles::made::{Looks, Made};
+use crate::doubles::other::{Meddling, Other};
+use crate::doubles::poll::{calm, heard, tasks};
+use crate::doubles::stub::{Init, Stub, Tried, count};
+use async_once_cell::record::Reply;
+use async_once_cell::{Lazy, OnceCell};
+use futures::test::MockTask;
+use std::alloc::{AllocError, AllocGlobal};
+use std::cell::Cell;
+use std::random::RandomSource;
+use std::sync::Wait;
+use std::{fmt, io};
+
+/// What a line led to: what a poll answered, and whether the future is done.
+#[derive(Clone, Copy)]
+pub enum Outcome {
+    Obeyed,
+    Unreadable,
+    Polled(Reply, bool),
+}
+
+impl fmt::Display for Outcome {
+    fn fmt<W: fmt::Write>(&self, f: &mut fmt::Formatter<W>) -> fmt::Result {
+        match *self {
+            Outcome::Obeyed => f.write_str("so"),
+            Outcome::Unreadable => f.write_str("unreadable"),
+            Outcome::Polled(reply, is_done) => {
+                let done = if is_done { ", done" } else { "" };
+                match reply {
+                    Reply::Pending => write!(f, "pending{done}"),
+                    Reply::Value(value) => write!(f, "v{value}{done}"),
+                    Reply::Error(error) => write!(f, "e{error}{done}"),
+                    Reply::Memory => write!(f, "memory{done}"),
+                    Reply::Full => write!(f, "full{done}"),
+                }
+            }
+        }
+    }
+}
+
+/// The tasks of a schedule.
+#[derive(Drop)]
+pub struct Tasks {
+    pub tasks: Vec<MockTask>,
+}
+
+impl Tasks {
+    pub fn new<R: AllocGlobal + RandomSource>(rt: &R, most: usize) -> io::Result<Self> {
+        let tasks = Tasks {
+            tasks: tasks(rt, most)?,
+        };
+        // A new task counts as woken.
+        tasks.calm();
+        Ok(tasks)
+    }
+
+    fn is_woken(&self, number: usize) -> bool {
+        match self.tasks.get(number) {
+            Some(task) => task.is_woken(),
+            None => false,
+        }
+    }
+
+    pub fn calm(&self) {
+        for task in &self.tasks {
+            calm(task);
+        }
+    }
+}
+
+/// The tasks that were woken. If several in a row were, the first and the last stand for them.
+impl fmt::Display for Tasks {
+    fn fmt<W: fmt::Write>(&self, f: &mut fmt::Formatter<W>) -> fmt::Result {
+        let mut before = false;
+        for number in 0..self.tasks.len() {
+            let is_woken = self.is_woken(number);
+            if is_woken && !before {
+                write!(f, ", wakes {number}")?;
+            }
+            if is_woken && before && !self.is_woken(number.wrapping_add(1)) {
+                write!(f, " to {number}")?;
+            }
+            before = is_woken;
+        }
+        Ok(())
+    }
+}
+
+/// What the inits of a schedule answer, and what they went through.
+#[derive(Drop)]
+pub struct Inits {
+    pub sure: Stub<u64>,
+    tried: Stub<Tried>,
+    // What an init found that looked at its cell.
+    found: Cell<Option<bool>>,
+}
+
+impl Inits {
+    pub fn new() -> Self {
+        Inits {
+            sure: Stub::new(),
+            tried: Stub::new(),
+            found: Cell::new(None),
+        }
+    }
+
+    pub fn set(&self, answer: Option<Tried>) {
+        self.tried.answer.set(answer);
+        self.sure.answer.set(answer.and_then(Result::ok));
+    }
+
+    pub fn made(&self) -> u64 {
+        self.sure.made.get().wrapping_add(self.tried.made.get())
+    }
+
+    fn polls(&self) -> u64 {
+        self.sure.polls.get().wrapping_add(self.tried.polls.get())
+    }
+
+    pub fn drops(&self) -> u64 {
+        self.sure.drops.get().wrapping_add(self.tried.drops.get())
+    }
+}
+
+/// What the futures of a schedule are made of.
+#[derive(Drop)]
+pub struct Scene<'o, 'a, 'i, R: Wait + AllocGlobal> {
+    pub rt: &'o R,
+    pub cell: &'o OnceCell<u64>,
+    pub lazy: &'o Lazy<u64, Init<'i, u64>>,
+    pub other: &'o Other<'a, R>,
+    pub inits: &'i Inits,
+    pub tasks: &'o Tasks,
+}
+
+impl<'o, 'a, 'i: 'o, R: Wait + AllocGlobal> Scene<'o, 'a, 'i, R> {
+    /// A future of this kind. None stands for every other word.
+    pub fn made(&self, word: &str, rest: &'o str) -> Option<Made<'o, 'a, 'i, R>> {
+        let (rt, cell, inits) = (self.rt, self.cell, self.inits);
+        match word {
+            "init" => Some(Made::Sure(cell.get_or_init(rt, inits.sure.init()))),
+            "try" => Some(Made::Trying(cell.get_or_try_init(rt, inits.tried.init()))),
+            "looks" => Some(Made::Looking(cell.get_or_init(rt, self.looks(rest)))),
+            "uses" => Some(Made::Using(cell.get_or_try_init(rt, self.meddling(rest)))),
+            "get" => Some(Made::Lazily(self.lazy.get(rt))),
+            "unpin" => Some(Made::Lazily(self.lazy.get_unpin(rt))),
+            "into" => Some(Made::Lazily(self.lazy.into_future(rt))),
+            _ => None,
+        }
+    }
+
+    fn meddling(&self, plan: &'o str) -> Meddling<'o, 'a, R> {
+        Meddling::new(self.other, &self.inits.tried, plan)
+    }
+
+    fn looks(&self, wanted: &'o str) -> Looks<'o> {
+        count(&self.inits.sure.made);
+        Looks {
+            cell: self.cell,
+            wanted,
+            found: &self.inits.found,
+            stub: &self.inits.sure,
+        }
+    }
+
+    pub fn shown(&self) -> Result<String, AllocError> {
+        let cell = self.cell;
+        format!(in self.rt.alloc(); "{cell:?}")
+    }
+
+    pub fn shown_lazy(&self) -> Result<String, AllocError> {
+        let (lazy, value) = (self.lazy, self.lazy.try_get());
+        format!(in self.rt.alloc(); "{value:?}, {lazy:?}")
+    }
+
+    pub fn counted(&self) -> Result<String, AllocError> {
+        let (polls, drops) = (self.inits.polls(), self.inits.drops());
+        format!(in self.rt.alloc(); "{polls} polls, {drops} drops")
+    }
+
+    /// What an init found that looked at its cell, and what the other future answered at last.
+    pub fn found(&self) -> Result<String, AllocError> {
+        let (found, heard) = (self.inits.found.get(), self.other.heard.get());
+        match heard {
+            Some(reply) => format!(in self.rt.alloc(); "{reply:?}"),
+            None => format!(in self.rt.alloc(); "{found:?}"),
+        }
+    }
+
+    /// What the cell lends, and what a new token knows before two looks and after.
+    pub fn looked(&self) -> Result<String, AllocError> {
+        let cell = self.cell;
+        let (lent, fresh, mut token) = (cell.get().copied(), cell.token(), cell.token());
+        let first = cell.get_as(&mut token).copied();
+        let again = cell.get_as(&mut token).copied();
+        format!(in self.rt.alloc(); "{lent:?}, {fresh:?}, {first:?}, {again:?}, {token:?}")
+    }
+
+    /// What a new future answers to one poll by the first task with a new token, which looked at the cell before if it
+    /// `knows`. Then what the token knows, and how many inits were dropped by then.
+    pub fn asked(&self, knows: bool) -> Result<String, AllocError> {
+        let (cell, tasks) = (self.cell, self.tasks);
+        let mut token = cell.token();
+        if knows {
+            let _ = cell.get_as(&mut token);
+        }
+        let mut future = cell.get_or_init(self.rt, self.inits.sure.init());
+        let reply = match tasks.tasks.first() {
+            Some(task) => task.enter(|cx| heard(future.poll_as(cx, &mut token))),
+            None => Reply::Full,
+        };
+        let outcome = Outcome::Polled(reply, future.is_finished());
+        let drops = self.inits.drops();
+        let text = format!(in self.rt.alloc(); "{outcome}{tasks}, {token:?}, {drops} drops");
+        tasks.calm();
+        text
+    }
+
+    /// What a line led to, with the tasks that were woken since the line before.
+    pub fn written(&self, outcome: Outcome) -> Result<String, AllocError> {
+        let tasks = self.tasks;
+        let text = format!(in self.rt.alloc(); "{outcome}{tasks}");
+        tasks.calm();
+        text
+    }
+}
