@@ -65,7 +65,7 @@ struct Schedule<'o, 'a, 'i, R: Wait + AllocGlobal> {
     turn: usize,
 }
 
-impl<'o, 'a, 'i: 'o, R: Wait + AllocGlobal> Schedule<'o, 'a, 'i, R> {
+impl<'o, 'a: 'o, 'i: 'o, R: Wait + AllocGlobal> Schedule<'o, 'a, 'i, R> {
     fn new(scene: Scene<'o, 'a, 'i, R>) -> Result<Self, AllocError> {
         let mut futures = Vec::new(scene.rt.alloc());
         for _ in 0..scene.tasks.tasks.len() {
@@ -262,12 +262,11 @@ fn come_to(what: &str, found: usize, least: usize) -> Result<(), Fail> {
 }
 
 // Runs the lines between two calls of the owner.
-fn run_part<'i, R: Wait + AllocGlobal>(
-    rt: &R,
-    cell: &OnceCell<u64>,
-    lazy: &Lazy<u64, Init<'i, u64>>,
-    (inits, tasks): (&'i Inits, &Tasks),
-    (name, lines): (&str, &str),
+fn run_part<'s, 'i: 's, R: Wait + AllocGlobal>(
+    rt: &'s R,
+    (cell, lazy): (&'s OnceCell<u64>, &'s Lazy<u64, Init<'i, u64>>),
+    (inits, tasks): (&'i Inits, &'s Tasks),
+    (name, lines): (&str, &'s str),
 ) -> Result<(), Fail> {
     let Some(task) = tasks.tasks.get(1) else {
         return Ok(());
@@ -361,7 +360,7 @@ where
     R: Wait + AllocGlobal,
 {
     let (first, others) = lines.split_once("owner ").unwrap_or((lines, ""));
-    run_part(rt, cell, lazy, (inits, tasks), (name, first))?;
+    run_part(rt, (&*cell, &*lazy), (inits, tasks), (name, first))?;
     if others.is_empty() {
         return Ok(());
     }
@@ -374,7 +373,7 @@ where
             owned(rt.alloc(), cell, lazy, (inits, tasks), order),
             wanted,
         )?;
-        run_part(rt, cell, lazy, (inits, tasks), (name, lines))?;
+        run_part(rt, (&*cell, &*lazy), (inits, tasks), (name, lines))?;
     }
     Ok(())
 }

@@ -41,9 +41,9 @@ const FILLED: &str =
 
 // What three futures of a cell answer twice: the holder, one whose queue comes second, and the one whose queue it finds.
 // And whether nothing is left at the cell.
-fn met_at_the_door<R: Wait + AllocGlobal>(
-    rt: &R,
-    [one, two, three]: [&MockTask; 3],
+fn met_at_the_door<'s, R: Wait + AllocGlobal>(
+    rt: &'s R,
+    [one, two, three]: [&'s MockTask; 3],
 ) -> ([Option<Reply>; 6], bool) {
     let cell = OnceCell::new();
     let mut holder = cell.get_or_init(rt, LATER);

@@ -26,7 +26,7 @@ const LEFT: [&str; 3] = [
     "ready: false, quick_init: false, refcount: 0, queue: true } }",
 ];
 
-impl<'o, 'a, 'i: 'o, R: Wait + AllocGlobal> Schedule<'o, 'a, 'i, R> {
+impl<'o, 'a: 'o, 'i: 'o, R: Wait + AllocGlobal> Schedule<'o, 'a, 'i, R> {
     // Makes, polls and drops futures as the lines say, each with its ration of memory.
     fn run_rationed(&mut self, lines: &'o str, rations: &mut Rations) -> Result<(), AllocError> {
         for line in lines.lines() {
@@ -79,7 +79,7 @@ impl<'o, 'a, 'i: 'o, R: Wait + AllocGlobal> Schedule<'o, 'a, 'i, R> {
     }
 }
 
-impl<'o, 'a, 'i: 'o, R: Wait + AllocGlobal> Scene<'o, 'a, 'i, R> {
+impl<'o, 'a: 'o, 'i: 'o, R: Wait + AllocGlobal> Scene<'o, 'a, 'i, R> {
     // Whether nobody is left in the cells, and a new future of each has its value.
     fn works(&self) -> Result<bool, AllocError> {
         let are_left = is_left(self.shown()?.as_str()) && is_left(self.shown_lazy()?.as_str());
@@ -117,11 +117,11 @@ fn is_left(text: &str) -> bool {
 }
 
 // Runs a schedule with rations: whether nobody waits in vain, and the cells still work.
-fn works_after<'i, R: Wait + AllocGlobal>(
-    rt: &R,
-    (cell, lazy): (&OnceCell<u64>, &Lazy<u64, Init<'i, u64>>),
-    (inits, tasks): (&'i Inits, &Tasks),
-    lines: &str,
+fn works_after<'s, 'i: 's, R: Wait + AllocGlobal>(
+    rt: &'s R,
+    (cell, lazy): (&'s OnceCell<u64>, &'s Lazy<u64, Init<'i, u64>>),
+    (inits, tasks): (&'i Inits, &'s Tasks),
+    lines: &'s str,
     rations: &mut Rations,
 ) -> Result<bool, AllocError> {
     let Some(task) = tasks.tasks.get(1) else {

@@ -135,7 +135,7 @@ pub struct Scene<'o, 'a, 'i, R: Wait + AllocGlobal> {
     pub tasks: &'o Tasks,
 }
 
-impl<'o, 'a, 'i: 'o, R: Wait + AllocGlobal> Scene<'o, 'a, 'i, R> {
+impl<'o, 'a: 'o, 'i: 'o, R: Wait + AllocGlobal> Scene<'o, 'a, 'i, R> {
     /// A future of this kind. None stands for every other word.
     pub fn made(&self, word: &str, rest: &'o str) -> Option<Made<'o, 'a, 'i, R>> {
         let (rt, cell, inits) = (self.rt, self.cell, self.inits);
