@@ -1,53 +1,17 @@
 //! Futures of cells that a schedule makes.
 
-use crate::doubles::expected::is_shown;
 use crate::doubles::other::Meddling;
 use crate::doubles::poll::heard;
-use crate::doubles::stub::{Init, Stub, Tried, count};
+use crate::doubles::stub::{Init, Tried};
+use async_once_cell::LazyFuturePin;
 use async_once_cell::once::{InitFuture, TryInitFuture};
 use async_once_cell::record::Reply;
-use async_once_cell::{LazyFuturePin, OnceCell};
 use futures::Future;
-use futures::task::{Context, Poll};
+use futures::task::Context;
 use futures::test::MockTask;
 use std::alloc::{AllocError, AllocGlobal, Global};
-use std::cell::Cell;
 use std::fmt;
 use std::sync::Wait;
-
-/// An init that looks at its cell when it is dropped, and else does as its stub says. It looks without memory.
-pub struct Looks<'a> {
-    pub cell: &'a OnceCell<u64>,
-    /// What the cell's Debug text is to be then.
-    pub wanted: &'a str,
-    /// Whether it was.
-    pub found: &'a Cell<Option<bool>>,
-    pub stub: &'a Stub<u64>,
-}
-
-impl Drop for Looks<'_> {
-    fn drop(self) {
-        let Looks {
-            cell,
-            wanted,
-            found,
-            stub,
-        } = self;
-        count(&stub.drops);
-        found.set(Some(is_shown(cell, wanted)));
-    }
-}
-
-impl Future for Looks<'_> {
-    type Output = u64;
-
-    fn poll(&mut self, cx: &mut Context<'_>) -> Poll<u64> {
-        match self.stub.asked() {
-            Some(answer) => Poll::Ready(answer),
-            None => cx.yield_now(),
-        }
-    }
-}
 
 fn text<T: fmt::Debug>(alloc: Global, value: &T) -> Result<String, AllocError> {
     format!(in alloc; "{value:?}")
@@ -65,10 +29,8 @@ fn lazy_text<F: Future, R: Wait + AllocGlobal>(
 /// A future of a cell, by the kind of its init.
 #[derive(Drop)]
 pub enum Made<'o, 'a, 'i, R: Wait + AllocGlobal> {
-    Sure(InitFuture<'o, u64, Init<'i, u64>, R>),
-    Trying(TryInitFuture<'o, u64, u64, Init<'i, Tried>, R>),
-    Looking(InitFuture<'o, u64, Looks<'o>, R>),
-    Using(TryInitFuture<'o, u64, u64, Meddling<'o, 'a, R>, R>),
+    Sure(InitFuture<'o, u64, Meddling<'o, 'a, u64, R>, R>),
+    Trying(TryInitFuture<'o, u64, u64, Meddling<'o, 'a, Tried, R>, R>),
     Lazily(LazyFuturePin<'o, u64, Init<'i, u64>, R>),
 }
 
@@ -77,8 +39,6 @@ impl<R: Wait + AllocGlobal> Made<'_, '_, '_, R> {
         match self {
             Made::Sure(future) => heard(Future::poll(future, cx)),
             Made::Trying(future) => heard(Future::poll(future, cx)),
-            Made::Looking(future) => heard(Future::poll(future, cx)),
-            Made::Using(future) => heard(Future::poll(future, cx)),
             Made::Lazily(future) => heard(Future::poll(future, cx)),
         }
     }
@@ -94,16 +54,14 @@ impl<R: Wait + AllocGlobal> Made<'_, '_, '_, R> {
         match self {
             Made::Sure(future) => future.is_finished(),
             Made::Trying(future) => future.is_finished(),
-            Made::Looking(future) => future.is_finished(),
-            Made::Using(future) => future.is_finished(),
             Made::Lazily(future) => future.is_finished(),
         }
     }
 
-    /// Calls `leave` of a future that is not done, if it is of one of two kinds.
+    /// Calls `leave` of a future that is not done and can't fail.
     pub fn leave(&mut self) {
         match self {
-            Made::Looking(future) if !future.is_finished() => future.leave(),
+            Made::Sure(future) if !future.is_finished() => future.leave(),
             Made::Lazily(future) if !future.is_finished() => future.leave(),
             _ => {}
         }
@@ -114,8 +72,6 @@ impl<R: Wait + AllocGlobal> Made<'_, '_, '_, R> {
         match self {
             Made::Sure(future) => text(alloc, future),
             Made::Trying(future) => text(alloc, future),
-            Made::Looking(future) => text(alloc, future),
-            Made::Using(future) => text(alloc, future),
             Made::Lazily(future) => lazy_text(alloc, future),
         }
     }

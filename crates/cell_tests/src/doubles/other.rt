@@ -1,7 +1,8 @@
 //! Another future of a cell, which an init polls or drops when it is polled or dropped itself.
 
+use crate::doubles::expected::is_shown;
 use crate::doubles::poll::polled;
-use crate::doubles::stub::{Stub, Tried, count};
+use crate::doubles::stub::{Stub, count};
 use async_once_cell::OnceCell;
 use async_once_cell::once::InitFuture;
 use async_once_cell::record::Reply;
@@ -41,6 +42,8 @@ pub struct Other<'a, R: Wait + AllocGlobal> {
     future: Mutex<Option<InitFuture<'a, u64, Later, R>>>,
     /// What its last poll answered.
     pub heard: Cell<Option<Reply>>,
+    /// Whether the cell's Debug text was what an init wanted that looked at it.
+    pub found: Cell<Option<bool>>,
 }
 
 impl<'a, R: Wait + AllocGlobal> Other<'a, R> {
@@ -51,6 +54,7 @@ impl<'a, R: Wait + AllocGlobal> Other<'a, R> {
             task,
             future: Mutex::new(Some(cell.get_or_init(rt, LATER))),
             heard: Cell::new(None),
+            found: Cell::new(None),
         }
     }
 
@@ -84,27 +88,30 @@ impl<'a, R: Wait + AllocGlobal> Other<'a, R> {
             }
             "drop" => drop(self.take_out()),
             "visit" => self.visit(),
-            _ => {}
+            "" => {}
+            text => self.found.set(Some(is_shown(self.cell, text))),
         }
     }
 }
 
-/// An init that uses another future of its cell, and else does as its stub says. It may `poll` the other, `drop` it, or
-/// `visit` it, which is both.
-pub struct Meddling<'o, 'a, R: Wait + AllocGlobal> {
+/// An init that does as its stub says, and may `poll` the other future of its cell, `drop` it, or `visit` it, which is
+/// both. Every other text is what the cell's Debug text is to be then. It looks without memory.
+pub struct Meddling<'o, 'a, O: Copy, R: Wait + AllocGlobal> {
     other: &'o Other<'a, R>,
-    stub: &'o Stub<Tried>,
+    stub: &'o Stub<O>,
     // What it does in each poll, a word for each.
     acts: &'o str,
     // What it does when it is dropped.
     last: &'o str,
 }
 
-impl<'o, 'a, R: Wait + AllocGlobal> Meddling<'o, 'a, R> {
-    /// One that does so: a word for each poll, and after `; ` one for its drop.
-    pub fn new(other: &'o Other<'a, R>, stub: &'o Stub<Tried>, plan: &'o str) -> Self {
+impl<'o, 'a, O: Copy, R: Wait + AllocGlobal> Meddling<'o, 'a, O, R> {
+    pub fn new(
+        other: &'o Other<'a, R>,
+        stub: &'o Stub<O>,
+        (acts, last): (&'o str, &'o str),
+    ) -> Self {
         count(&stub.made);
-        let (acts, last) = plan.split_once("; ").unwrap_or((plan, ""));
         Meddling {
             other,
             stub,
@@ -114,10 +121,10 @@ impl<'o, 'a, R: Wait + AllocGlobal> Meddling<'o, 'a, R> {
     }
 }
 
-impl<R: Wait + AllocGlobal> Future for Meddling<'_, '_, R> {
-    type Output = Tried;
+impl<O: Copy, R: Wait + AllocGlobal> Future for Meddling<'_, '_, O, R> {
+    type Output = O;
 
-    fn poll(&mut self, cx: &mut Context<'_>) -> Poll<Tried> {
+    fn poll(&mut self, cx: &mut Context<'_>) -> Poll<O> {
         let (act, rest) = self.acts.split_once(' ').unwrap_or((self.acts, ""));
         self.acts = rest;
         self.other.obey(act);
@@ -128,7 +135,7 @@ impl<R: Wait + AllocGlobal> Future for Meddling<'_, '_, R> {
     }
 }
 
-impl<R: Wait + AllocGlobal> Drop for Meddling<'_, '_, R> {
+impl<O: Copy, R: Wait + AllocGlobal> Drop for Meddling<'_, '_, O, R> {
     fn drop(self) {
         let Meddling {
             other,

@@ -14,12 +14,13 @@
 //! another poll of its task, which counts as a wake.
 //!
 //! Task 1 has one other future of the `OnceCell`, whose init is Pending once and then gives 4. `other` polls it.
-//! `uses T PLAN` makes a future as `try T` does, whose init polls, drops or visits the other one, as `Meddling` says;
-//! then `found` has what that answered at last.
+//! `uses T PLAN` makes a future as `try T` does, whose init does something to the other one, as `Meddling` says: a word
+//! for each poll, and after `; ` one for its drop. Then `found` has what the other answered at last.
 //!
-//! `look` has what the `OnceCell` lends, a new token, and one after each of two looks. `ask A` polls a new future once
-//! with a new token, by task 0, and `know A` with one that looked before. Then comes what the token knows, and how many
-//! inits were dropped before that future was. `lazy` has what `try_get` answers before the text.
+//! `look` has what the `OnceCell` lends and answers to a new token, and what such a token knows before and after.
+//! `ask A` polls a new future once with a new token, by task 0, and `know A` with one that looked before. Then comes
+//! what the token knows, and how many inits were dropped before that future was. `lazy` has what `try_get` answers
+//! before the text.
 //!
 //! `owner` stands before a call of the owner, and puts an end to all futures: `take` and `write N` on the `OnceCell`,
 //! and `with N`, `from N` and `default` put a new one in its place; `lend N` writes the value of the `Lazy`, and

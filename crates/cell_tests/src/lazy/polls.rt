@@ -34,7 +34,7 @@ poll 1 v5 => v5, done
 drop 1
 inits => 3 polls, 1 drops
 
-# driven_on_after_a_holder_left: a holder whose `leave` is called leaves the future of the cell as it is, and another task drives it on
+# driven_on_after_a_holder_left: by `leave`: the future of the cell stays, and another task drives it on
 get 0
 get 1
 poll 0 p => pending, wakes 0

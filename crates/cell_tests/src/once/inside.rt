@@ -4,7 +4,7 @@ use crate::doubles::schedule::run;
 use std::test::Fail;
 
 const SCHEDULES: &str = "\
-# polls_another_and_fails: an init polls another future, which waits, and then fails. The other is woken, and its init fills the cell
+# polls_another_and_fails: the other waits, and is woken by the failure. Its init fills the cell
 uses 0 poll
 poll 0 p => pending, wakes 0
 found => Pending
@@ -23,7 +23,7 @@ found => Pending
 other => unreadable
 show => OnceCell { value: Some(6), inner: Inner { ready: true, quick_init: false, refcount: 0, queue: false } }
 
-# polls_another_when_it_is_done: an init that gave its value polls another future when it is dropped: the right is held still, and the other waits. The value wakes it
+# polls_another_when_it_is_done: its init is dropped while the right is held still, so the other waits
 uses 0 ; poll
 poll 0 p => pending, wakes 0
 poll 0 v6 => v6, done, wakes 1
@@ -31,7 +31,7 @@ found => Pending
 other => v6
 show => OnceCell { value: Some(6), inner: Inner { ready: true, quick_init: false, refcount: 0, queue: false } }
 
-# polls_another_when_its_future_is_dropped: the same of the init of a holder that is dropped: the other is woken, and its init fills the cell
+# polls_another_when_its_future_is_dropped: the same of a holder that is dropped: the other is woken
 uses 0 ; poll
 poll 0 p => pending, wakes 0
 drop 0 => so, wakes 1
@@ -40,7 +40,7 @@ other => pending, wakes 1
 other => v4
 show => OnceCell { value: Some(4), inner: Inner { ready: true, quick_init: false, refcount: 0, queue: false } }
 
-# leaves_after_the_value: the init of a future that waits is dropped with it, and polls the holder, which fills the cell and wakes all that are listed. Then the future leaves, the last to do so
+# leaves_after_the_value: a waiter is dropped, whose init polls the holder. That fills the cell before the waiter leaves
 uses 0 ; poll
 other => pending, wakes 1
 poll 0 p => pending
@@ -48,7 +48,7 @@ drop 0 => so, wakes 0
 found => Value(4)
 show => OnceCell { value: Some(4), inner: Inner { ready: true, quick_init: false, refcount: 0, queue: false } }
 
-# called_while_it_leaves: the same, but the holder is dropped and not polled: it wakes the one that leaves, which passes its turn on to the next
+# called_while_it_leaves: its init drops the holder, which wakes the one that leaves. That wakes the next
 uses 0 ; drop
 init 2
 other => pending, wakes 1
@@ -59,7 +59,7 @@ poll 2 p => pending, wakes 2
 poll 2 v4 => v4, done
 show => OnceCell { value: Some(4), inner: Inner { ready: true, quick_init: false, refcount: 0, queue: false } }
 
-# right_taken_while_it_leaves: one that was woken is dropped, and its init polls another future then, which takes the right. So no turn is passed on, until that one gives its value
+# right_taken_while_it_leaves: its init polls another, which takes the right. So no turn is passed on until that fills
 init 0
 uses 2 ; poll
 init 3

@@ -4,7 +4,8 @@
 use crate::doubles::schedule::run;
 use std::test::Fail;
 
-// The poll of a set cell drops the init and does not poll it, also with a token that knows the value. No other call does.
+// The poll of a set cell drops the init and does not poll it, also with a token that knows the value. No other call
+// does.
 const SCHEDULES: &str = "\
 # set_by_a_fill: a cell that a future filled
 init 0

@@ -10,7 +10,7 @@ owner write 6 => Some(5)
 show => OnceCell { value: Some(6), inner: Inner { ready: true, quick_init: false, refcount: 0, queue: false } }
 owner take => Some(6)
 show => OnceCell { value: None, inner: Inner { ready: false, quick_init: false, refcount: 0, queue: false } }
-look => None, Known(None), None, None, Known(None)
+look => [None, None], Known(None), Known(None)
 owner write 7 => None
 owner take => None
 end => None, None
@@ -39,7 +39,7 @@ drop 0
 forget 1
 show => OnceCell { value: Some(4), inner: Inner { ready: true, quick_init: false, refcount: 1, queue: true } }
 owner write 6 => Some(4)
-look => Some(6), Known(None), Some(6), Some(6), Known(Some(6))
+look => [Some(6), Some(6)], Known(None), Known(Some(6))
 
 # nothing_to_write_beside_a_holder: a cell that is not set is left as it is, whichever futures were forgotten there
 init 0
@@ -53,14 +53,14 @@ forget 0
 owner write 6 => None
 show => OnceCell { value: None, inner: Inner { ready: false, quick_init: true, refcount: 1, queue: true } }
 
-# written_after_a_fill: a value that an init gave may be written too. Then polls and tokens are told the written one, and no other init is polled
+# written_after_a_fill: polls and tokens are told the written value, and no other init is polled
 init 0
 poll 0 v4 => v4, done
-look => Some(4), Known(None), Some(4), Some(4), Known(Some(4))
+look => [Some(4), Some(4)], Known(None), Known(Some(4))
 owner write 6 => Some(4)
 init 0
 poll 0 v4 => v6, done
-look => Some(6), Known(None), Some(6), Some(6), Known(Some(6))
+look => [Some(6), Some(6)], Known(None), Known(Some(6))
 inits => 1 polls, 2 drops
 owner write 6 => Some(6)
 owner take => Some(6)

@@ -39,8 +39,8 @@ const VALUE: Option<Reply> = Some(Reply::Value(4));
 const FILLED: &str =
     "OnceCell { value: Some(4), inner: Inner { ready: true, quick_init: false, refcount: 0, queue: false } }";
 
-// What three futures of a cell answer twice: the holder, one whose queue comes second, and the one whose queue it finds.
-// And whether nothing is left at the cell.
+// What three futures of a cell answer twice: the holder, one whose queue comes second, and the one whose queue it
+// finds. And whether nothing is left at the cell.
 fn met_at_the_door<'s, R: Wait + AllocGlobal>(
     rt: &'s R,
     [one, two, three]: [&'s MockTask; 3],

@@ -70,12 +70,28 @@ impl<'o, 'a: 'o, 'i: 'o, R: Wait + AllocGlobal> Schedule<'o, 'a, 'i, R> {
     // finished then.
     fn settles(&mut self) -> bool {
         self.scene.inits.set(Some(Ok(4)));
+        let mut are_finished = true;
         for _ in 0..POLLS {
-            for (future, task) in self.futures.iter_mut().zip(&self.scene.tasks.tasks) {
-                poll_woken(future, task);
+            are_finished = true;
+            for number in 0..self.futures.len() {
+                are_finished &= self.is_settled(number);
             }
         }
-        self.futures.iter().flatten().all(|it| it.is_finished())
+        are_finished
+    }
+
+    // Polls a future that is not finished, if its task was woken. Whether it is finished then.
+    fn is_settled(&mut self, number: usize) -> bool {
+        let tasks = self.scene.tasks;
+        match (self.futures.get_mut(number), tasks.tasks.get(number)) {
+            (Some(Some(future)), Some(task)) => {
+                if task.is_woken() && !future.is_finished() {
+                    future.polled(task);
+                }
+                future.is_finished()
+            }
+            _ => true,
+        }
     }
 }
 
@@ -94,15 +110,6 @@ impl<'o, 'a: 'o, 'i: 'o, R: Wait + AllocGlobal> Scene<'o, 'a, 'i, R> {
     fn answers(&self, word: &str) -> Option<Reply> {
         let task = self.tasks.tasks.first()?;
         Some(answer_of(self.made(word, "")?, task))
-    }
-}
-
-// Polls a future that is not finished, if its task was woken.
-fn poll_woken<R: Wait + AllocGlobal>(future: &mut Option<Made<'_, '_, '_, R>>, task: &MockTask) {
-    if let Some(future) = future {
-        if task.is_woken() && !future.is_finished() {
-            future.polled(task);
-        }
     }
 }
 

@@ -1,14 +1,13 @@
 //! What a schedule is about: the tasks, the inits and the cells, and what they show.
 
-use crate::doubles::made::{Looks, Made};
+use crate::doubles::made::Made;
 use crate::doubles::other::{Meddling, Other};
 use crate::doubles::poll::{calm, heard, tasks};
-use crate::doubles::stub::{Init, Stub, Tried, count};
+use crate::doubles::stub::{Init, Stub, Tried};
 use async_once_cell::record::Reply;
 use async_once_cell::{Lazy, OnceCell};
 use futures::test::MockTask;
 use std::alloc::{AllocError, AllocGlobal};
-use std::cell::Cell;
 use std::random::RandomSource;
 use std::sync::Wait;
 use std::{fmt, io};
@@ -93,8 +92,6 @@ impl fmt::Display for Tasks {
 pub struct Inits {
     pub sure: Stub<u64>,
     tried: Stub<Tried>,
-    // What an init found that looked at its cell.
-    found: Cell<Option<bool>>,
 }
 
 impl Inits {
@@ -102,7 +99,6 @@ impl Inits {
         Inits {
             sure: Stub::new(),
             tried: Stub::new(),
-            found: Cell::new(None),
         }
     }
 
@@ -138,30 +134,25 @@ pub struct Scene<'o, 'a, 'i, R: Wait + AllocGlobal> {
 impl<'o, 'a: 'o, 'i: 'o, R: Wait + AllocGlobal> Scene<'o, 'a, 'i, R> {
     /// A future of this kind. None stands for every other word.
     pub fn made(&self, word: &str, rest: &'o str) -> Option<Made<'o, 'a, 'i, R>> {
-        let (rt, cell, inits) = (self.rt, self.cell, self.inits);
+        let (rt, cell, other) = (self.rt, self.cell, self.other);
+        let plan = match word {
+            "looks" => ("", rest),
+            "uses" => rest.split_once("; ").unwrap_or((rest, "")),
+            _ => ("", ""),
+        };
         match word {
-            "init" => Some(Made::Sure(cell.get_or_init(rt, inits.sure.init()))),
-            "try" => Some(Made::Trying(cell.get_or_try_init(rt, inits.tried.init()))),
-            "looks" => Some(Made::Looking(cell.get_or_init(rt, self.looks(rest)))),
-            "uses" => Some(Made::Using(cell.get_or_try_init(rt, self.meddling(rest)))),
+            "init" | "looks" => {
+                let init = Meddling::new(other, &self.inits.sure, plan);
+                Some(Made::Sure(cell.get_or_init(rt, init)))
+            }
+            "try" | "uses" => {
+                let init = Meddling::new(other, &self.inits.tried, plan);
+                Some(Made::Trying(cell.get_or_try_init(rt, init)))
+            }
             "get" => Some(Made::Lazily(self.lazy.get(rt))),
             "unpin" => Some(Made::Lazily(self.lazy.get_unpin(rt))),
             "into" => Some(Made::Lazily(self.lazy.into_future(rt))),
             _ => None,
-        }
-    }
-
-    fn meddling(&self, plan: &'o str) -> Meddling<'o, 'a, R> {
-        Meddling::new(self.other, &self.inits.tried, plan)
-    }
-
-    fn looks(&self, wanted: &'o str) -> Looks<'o> {
-        count(&self.inits.sure.made);
-        Looks {
-            cell: self.cell,
-            wanted,
-            found: &self.inits.found,
-            stub: &self.inits.sure,
         }
     }
 
@@ -182,20 +173,19 @@ impl<'o, 'a: 'o, 'i: 'o, R: Wait + AllocGlobal> Scene<'o, 'a, 'i, R> {
 
     /// What an init found that looked at its cell, and what the other future answered at last.
     pub fn found(&self) -> Result<String, AllocError> {
-        let (found, heard) = (self.inits.found.get(), self.other.heard.get());
+        let (found, heard) = (self.other.found.get(), self.other.heard.get());
         match heard {
             Some(reply) => format!(in self.rt.alloc(); "{reply:?}"),
             None => format!(in self.rt.alloc(); "{found:?}"),
         }
     }
 
-    /// What the cell lends, and what a new token knows before two looks and after.
+    /// What the cell lends, what a new token knows, and what it answers to a look and knows then.
     pub fn looked(&self) -> Result<String, AllocError> {
         let cell = self.cell;
-        let (lent, fresh, mut token) = (cell.get().copied(), cell.token(), cell.token());
-        let first = cell.get_as(&mut token).copied();
-        let again = cell.get_as(&mut token).copied();
-        format!(in self.rt.alloc(); "{lent:?}, {fresh:?}, {first:?}, {again:?}, {token:?}")
+        let (fresh, mut token) = (cell.token(), cell.token());
+        let found = [cell.get().copied(), cell.get_as(&mut token).copied()];
+        format!(in self.rt.alloc(); "{found:?}, {fresh:?}, {token:?}")
     }
 
     /// What a new future answers to one poll by the first task with a new token, which looked at the cell before if it
