@@ -184,6 +184,15 @@ def tests_of(crate):
     return found
 
 
+def try_program(crate, *words):
+    """Tries the program of the crate in this folder, with its `data`, `args` and `stdin`, as its test does."""
+    data, words = os.path.join(crate, "data"), list(words)
+    for path in filter(os.path.isfile, sorted(glob.glob(os.path.join(data, "**"), recursive=True))):
+        words += ["--data", f"{os.path.relpath(path, data)}={path}"]
+    args = optional(crate, "args").decode().splitlines()
+    return Tried(crate, *words, "--", *args, given=optional(crate, "stdin"))
+
+
 def take_out(crate, tests):
     """Takes these tests out of the crate in this folder; one that is not there is refused."""
     there = tests_of(crate)

@@ -1,0 +1,6 @@
+-- The world was reached by the steps so far.
+use Rattle.once_script.specs.Reached.{IsReached}
+use Rattle.view_tests.proofs.read_back.story.Story.take.Given as goal
+
+abbrev pub invariant-loop : goal.invariant-loop
+invariant-loop l = IsReached l.world

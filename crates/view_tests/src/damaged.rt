@@ -1,0 +1,184 @@
+//! Records of replays at random, whole and with one entry dropped, doubled or exchanged: the judge and the plain
+//! definitions say the same of each, by the rule that a failure wakes one, and by the rule that it wakes all.
+
+use crate::chance::Chance;
+use crate::plain::Rules;
+use crate::records::{answer, call, record, task, waker};
+use crate::same::same;
+use once_judge::{Calls, judge};
+use once_script::parse::record::RecordText;
+use once_script::world::{Entry, Got, Reply};
+use std::alloc::{AllocError, Global};
+use std::process::Abort;
+use std::test::Fail;
+
+// An entry that is read from nowhere.
+fn entry(alloc: Global, chance: &mut Chance) -> Result<Entry, AllocError> {
+    let (task, waker) = (task(chance), waker(chance));
+    Ok(match chance.draw(14) {
+        0 => Entry::Made(task),
+        1 => Entry::Begin(task, waker),
+        2 => Entry::Claim(task),
+        3 => Entry::Ran(task, answer(chance)),
+        4 => Entry::Free(task, Vec::new(alloc)),
+        5 => Entry::Free(task, vec![in alloc; waker]?),
+        6 => Entry::Fill(task, 6, vec![in alloc; waker]?),
+        7 => Entry::Pass(task, vec![in alloc; waker]?),
+        8 => Entry::End(task, Reply::Memory),
+        9 => Entry::End(task, Reply::Full),
+        10 => Entry::End(task, Reply::Pending),
+        11 => Entry::DropBegin(task),
+        12 => Entry::Look(None),
+        _ => Entry::Own(call(alloc, chance)?, Got::None),
+    })
+}
+
+// The record with one entry dropped, put elsewhere once more, or exchanged.
+fn damage(alloc: Global, chance: &mut Chance, entries: &mut Vec<Entry>) -> Result<(), AllocError> {
+    let at = chance.draw((entries.len() as u64).max(1)) as usize;
+    match chance.draw(4) {
+        0 if at < entries.len() => {
+            let _ = entries.remove(at);
+        }
+        1 if at.saturating_add(1) < entries.len() => entries.swap(at, at.saturating_add(1)),
+        2 if at < entries.len() => {
+            let other = entry(alloc, chance)?;
+            entries[at] = other;
+        }
+        _ => {
+            let more = entry(alloc, chance)?;
+            entries.insert(at.min(entries.len()), more)?;
+        }
+    }
+    Ok(())
+}
+
+// The record as a cell makes it whose releases without a value wake all, up to where it can't: each release hands out
+// every waker that is due.
+fn to_all(alloc: Global, rules: Rules<'_>, entries: Vec<Entry>) -> Result<Vec<Entry>, AllocError> {
+    let mut to_all = Vec::new(alloc);
+    for entry in entries {
+        let mut due = Vec::new(alloc);
+        for waker in 7..10u64 {
+            if rules.is_due(waker, &to_all) {
+                due.push(waker)?;
+            }
+        }
+        to_all.push(match entry {
+            Entry::Free(t, _) => Entry::Free(t, due),
+            Entry::Fill(t, v, _) => Entry::Fill(t, v, due),
+            _ => entry,
+        })?;
+    }
+    to_all.truncate(rules.first_fault(&to_all).unwrap_or(to_all.len()));
+    Ok(to_all)
+}
+
+// Compares what the judge says of a record with what the definitions do. The answer is whether it is a run.
+fn compare(
+    rt: &impl Abort,
+    alloc: Global,
+    seed: u64,
+    rules: Rules<'_>,
+    entries: &[Entry],
+) -> Result<bool, AllocError> {
+    let calls = if rules.calls_all {
+        Calls::All
+    } else {
+        Calls::One
+    };
+    let verdict = judge(alloc, rules.kind, rules.limit, calls, entries)?;
+    let fault = rules.first_fault(entries);
+    let end = fault.unwrap_or(entries.len()).min(entries.len());
+    let found = [
+        verdict.fault.map(|f| f.entry),
+        verdict.forgotten.map(|f| f.entry),
+    ];
+    let wanted = [fault, rules.first_forgotten(&entries[..end])];
+    same(rt, (seed, found), (seed, wanted));
+    Ok(fault.is_none())
+}
+
+// Compares a record that is a run, and then damages it five times and compares each time. The answer is how many of
+// the damaged ones are runs.
+fn compare_damaged(
+    rt: &impl Abort,
+    alloc: Global,
+    seed: u64,
+    chance: &mut Chance,
+    rules: Rules<'_>,
+    mut entries: Vec<Entry>,
+) -> Result<u64, AllocError> {
+    let is_run = compare(rt, alloc, seed, rules, &entries)?;
+    same(rt, (seed, is_run), (seed, true));
+    let mut runs = 0u64;
+    for _ in 0..5 {
+        damage(alloc, chance, &mut entries)?;
+        let is_run = compare(rt, alloc, seed, rules, &entries)?;
+        runs = runs.saturating_add(u64::from(is_run));
+    }
+    Ok(runs)
+}
+
+// One record by the rule that a failure wakes one.
+fn compare_one(rt: &impl Abort, alloc: Global, seed: u64) -> Result<u64, AllocError> {
+    let mut chance = Chance::new(seed);
+    let RecordText {
+        kind,
+        limit,
+        entries,
+    } = record(alloc, &mut chance, false)?;
+    let rules = Rules {
+        kind: &kind,
+        limit,
+        calls_all: false,
+    };
+    compare_damaged(rt, alloc, seed, &mut chance, rules, entries)
+}
+
+// One record by the rule that a failure wakes all: whether it is a run by that rule alone, and how many of the damaged
+// ones are runs.
+fn compare_all(rt: &impl Abort, alloc: Global, seed: u64) -> Result<(bool, u64), AllocError> {
+    let mut chance = Chance::new(seed);
+    let RecordText {
+        kind,
+        limit,
+        entries,
+    } = record(alloc, &mut chance, true)?;
+    let rules = Rules {
+        kind: &kind,
+        limit,
+        calls_all: true,
+    };
+    let entries = to_all(alloc, rules, entries)?;
+    let one = Rules {
+        calls_all: false,
+        ..rules
+    };
+    let is_apart = !compare(rt, alloc, seed, one, &entries)?;
+    let runs = compare_damaged(rt, alloc, seed, &mut chance, rules, entries)?;
+    Ok((is_apart, runs))
+}
+
+#[test]
+fn judge_and_definitions_say_the_same(rt: HostRuntime) -> Result<(), Fail> {
+    let mut runs = 0u64;
+    for seed in 0..2_000 {
+        runs = runs.saturating_add(compare_one(&rt, rt.alloc(), seed)?);
+    }
+    assert!(rt; runs > 500, "{runs} damaged records are runs");
+    Ok(())
+}
+
+#[test]
+fn they_say_the_same_of_cells_that_call_all(rt: HostRuntime) -> Result<(), Fail> {
+    let (mut apart, mut runs) = (0u64, 0u64);
+    for seed in 0..400 {
+        let (is_apart, more) = compare_all(&rt, rt.alloc(), seed)?;
+        apart = apart.saturating_add(u64::from(is_apart));
+        runs = runs.saturating_add(more);
+    }
+    assert!(rt; apart > 50, "{apart} records are runs by one rule alone");
+    assert!(rt; runs > 100, "{runs} damaged records are runs");
+    Ok(())
+}
