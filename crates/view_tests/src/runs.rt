@@ -49,88 +49,53 @@ fn ending<I: Read + Drop>(alloc: Global, input: I) -> Ending {
     (answer, printed.len())
 }
 
-// Scripts, and what each is read as: its kind, its limit, and its other lines.
-const READ: [(&str, &str); 32] = [
-    ("once 3", "Once 3 []"),
-    ("once 1 with 7\n", "OnceWith(7) 1 []"),
-    (
-        "once 8 with 18446744073709551615",
-        "OnceWith(18446744073709551615) 8 []",
-    ),
-    ("once 4611686018427387902", "Once 4611686018427387902 []"),
-    ("lazy 8", "Lazy([]) 8 []"),
-    ("lazy 8 p", "Lazy([None]) 8 []"),
-    ("lazy 2 v0", "Lazy([Some(0)]) 2 []"),
-    (
-        "lazy 8 p p v3 p v4\n",
-        "Lazy([None, None, Some(3), None, Some(4)]) 8 []",
-    ),
-    ("lazy 8 with 5", "LazyWith(5) 8 []"),
-    ("once 3\nmake 1", "Once 3 [Single(Make(1))]"),
-    ("once 3\nmake 0", "Once 3 [Single(Make(0))]"),
-    (
-        "once 3\nmake 18446744073709551615",
-        "Once 3 [Single(Make(18446744073709551615))]",
-    ),
-    ("once 3\npoll 1 7", "Once 3 [Single(Poll(1, 7))]"),
-    ("once 3\ndrop 3", "Once 3 [Single(Drop(3))]"),
-    ("once 3\ngo 1 p", "Once 3 [Single(Go(1, Pending, true))]"),
-    ("once 3\ngo 0 v0", "Once 3 [Single(Go(0, Value(0), true))]"),
-    (
-        "once 3\ngo 1 e12",
-        "Once 3 [Single(Go(1, Error(12), true))]",
-    ),
-    ("once 3\ngo 1 p x", "Once 3 [Single(Go(1, Pending, false))]"),
-    (
-        "once 3\ngo 1 v4 x",
-        "Once 3 [Single(Go(1, Value(4), false))]",
-    ),
-    (
-        "once 3\ngo 1 e5 x",
-        "Once 3 [Single(Go(1, Error(5), false))]",
-    ),
-    ("once 3\nlook", "Once 3 [Single(Look)]"),
-    ("once 3\ntake", "Once 3 [Single(Own(Take))]"),
-    ("once 3\nwrite 4", "Once 3 [Single(Own(Write(4)))]"),
-    ("once 3\nparts", "Once 3 [Single(Own(Parts))]"),
-    (
-        "once 3\nreplace with 4",
-        "Once 3 [Single(Own(ReplaceValue(4)))]",
-    ),
-    (
-        "once 3\nreplace",
-        "Once 3 [Single(Own(ReplaceAnswers([])))]",
-    ),
-    (
-        "once 3\nreplace v9",
-        "Once 3 [Single(Own(ReplaceAnswers([Some(9)])))]",
-    ),
-    (
-        "once 3\nreplace p v3 v4 p",
-        "Once 3 [Single(Own(ReplaceAnswers([None, Some(3), Some(4), None])))]",
-    ),
-    ("lazy 3\nrun 2 p", "Lazy([]) 3 [Run(2, Pending, true)]"),
-    ("once 3\nrun 2 v4\n", "Once 3 [Run(2, Value(4), true)]"),
-    ("once 3\nrun 2 e5 x\n", "Once 3 [Run(2, Error(5), false)]"),
-    // Lines are read in their order.
-    (
-        "once 3\nmake 1\npoll 1 7\nrun 1 p x\ntake\nlook",
-        "Once 3 [Single(Make(1)), Single(Poll(1, 7)), Run(1, Pending, false), Single(Own(Take)), Single(Look)]",
-    ),
-];
+// Scripts, in which a slash ends a line, and what each is read as: its kind, its limit, and its other lines.
+const READ: &str = "\
+once 3|Once 3 []
+once 1 with 7/|OnceWith(7) 1 []
+once 8 with 18446744073709551615|OnceWith(18446744073709551615) 8 []
+once 4611686018427387902|Once 4611686018427387902 []
+lazy 8|Lazy([]) 8 []
+lazy 8 p|Lazy([None]) 8 []
+lazy 2 v0|Lazy([Some(0)]) 2 []
+lazy 8 p p v3 p v4/|Lazy([None, None, Some(3), None, Some(4)]) 8 []
+lazy 8 with 5|LazyWith(5) 8 []
+once 3/make 1|Once 3 [Single(Make(1))]
+once 3/make 0|Once 3 [Single(Make(0))]
+once 3/make 18446744073709551615|Once 3 [Single(Make(18446744073709551615))]
+once 3/poll 1 7|Once 3 [Single(Poll(1, 7))]
+once 3/drop 3|Once 3 [Single(Drop(3))]
+once 3/go 1 p|Once 3 [Single(Go(1, Pending, true))]
+once 3/go 0 v0|Once 3 [Single(Go(0, Value(0), true))]
+once 3/go 1 e12|Once 3 [Single(Go(1, Error(12), true))]
+once 3/go 1 p x|Once 3 [Single(Go(1, Pending, false))]
+once 3/go 1 v4 x|Once 3 [Single(Go(1, Value(4), false))]
+once 3/go 1 e5 x|Once 3 [Single(Go(1, Error(5), false))]
+once 3/look|Once 3 [Single(Look)]
+once 3/take|Once 3 [Single(Own(Take))]
+once 3/write 4|Once 3 [Single(Own(Write(4)))]
+once 3/parts|Once 3 [Single(Own(Parts))]
+once 3/replace with 4|Once 3 [Single(Own(ReplaceValue(4)))]
+once 3/replace|Once 3 [Single(Own(ReplaceAnswers([])))]
+once 3/replace v9|Once 3 [Single(Own(ReplaceAnswers([Some(9)])))]
+once 3/replace p v3 v4 p|Once 3 [Single(Own(ReplaceAnswers([None, Some(3), Some(4), None])))]
+lazy 3/run 2 p|Lazy([]) 3 [Run(2, Pending, true)]
+once 3/run 2 v4/|Once 3 [Run(2, Value(4), true)]
+once 3/run 2 e5 x/|Once 3 [Run(2, Error(5), false)]
+once 3/make 1/poll 1 7/run 1 p x/take/look|Once 3 [Single(Make(1)), Single(Poll(1, 7)), Run(1, Pending, false), Single(Own(Take)), Single(Look)]";
 
-fn read(alloc: Global, text: &str) -> Result<String, AllocError> {
-    match parse_script(alloc, text.as_bytes()) {
-        Ok(script) => format!(in alloc; "{:?} {} {:?}", script.kind, script.limit, script.lines),
-        Err(fault) => format!(in alloc; "{fault}"),
+fn read(alloc: Global, row: &str) -> Result<String, AllocError> {
+    let (script, _) = row.split_once('|').unwrap_or((row, ""));
+    match parse_script(alloc, script.replace(alloc, '/', "\n")?.as_bytes()) {
+        Ok(it) => format!(in alloc; "{script}|{:?} {} {:?}", it.kind, it.limit, it.lines),
+        Err(fault) => format!(in alloc; "{script}|{fault}"),
     }
 }
 
 #[test]
 fn each_line_is_read(rt: HostRuntime) -> Result<(), Fail> {
-    for (text, wanted) in &READ {
-        let found = read(rt.alloc(), text)?;
-        same(&rt, (*text, found.as_str()), (*text, *wanted));
+    for row in READ.lines() {
+        same(&rt, read(rt.alloc(), row)?.as_str(), row);
     }
     Ok(())
 }

@@ -6,15 +6,22 @@ use once_machine::record::{Call, Entry, Got, Kind, Ran, Reply};
 impl Rules<'_> {
     /// The number of the first entry that may not come next, counted from 0.
     pub fn first_fault(self, entries: &[Entry]) -> Option<usize> {
-        entries.iter().enumerate().position(|(index, entry)| !self.may_follow(
-            entry,
-            &entries[..index],
-        ))
+        for (index, entry) in entries.iter().enumerate() {
+            if !self.may_follow(entry, &entries[..index]) {
+                return Some(index);
+            }
+        }
+        None
     }
 
     /// The number of the first of these entries after which somebody is forgotten.
     pub fn first_forgotten(self, entries: &[Entry]) -> Option<usize> {
-        (0..entries.len()).find(|index| !self.somebody_called(&entries[..index.saturating_add(1)]))
+        for index in 0..entries.len() {
+            if !self.somebody_called(&entries[..index.saturating_add(1)]) {
+                return Some(index);
+            }
+        }
+        None
     }
 
     // Whether the entry may come after these.
