@@ -13,10 +13,12 @@ mod draw;
 mod lanes;
 mod legend;
 mod shape;
+mod svg;
 
 use draw::Drawing;
 use lanes::Lanes;
 use shape::{CellState, Shape};
+use svg::Svg;
 
 /// How many ticks a column has. The entries that a line adds stand at one tick after the other.
 const TICKS: u64 = 8;
@@ -165,8 +167,9 @@ impl Picture {
         columns: &[TextLine<'_>],
         output: &mut O,
     ) -> io::Result<()> {
-        let drawing = Drawing::new(self.alloc, title, columns, &self.lanes)?;
-        drawing.write(&self.shapes, output)
+        let mut svg = Svg::new(self.alloc);
+        Drawing::new(title, columns, &self.lanes).draw(&self.shapes, &mut svg);
+        svg.write(output)
     }
 
     /// The task that holds, if one does.

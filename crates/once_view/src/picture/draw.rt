@@ -1,13 +1,11 @@
 //! A picture's shapes as SVG.
 use super::TICKS;
 use super::lanes::{Lane, Lanes};
-use super::legend::write_legend;
+use super::legend::draw_legend;
 use super::shape::{CellState, LAYERS, Shape, Span};
+use super::svg::{Label, Svg};
 use crate::reading::TextLine;
 use once_script::world::{Ran, Reply};
-use std::alloc::{AllocError, Global};
-use std::io::Write;
-use std::{fmt, io};
 
 /// The left margin, if the names of the tasks need no more.
 const LEAST_LEFT: u64 = 70;
@@ -33,7 +31,10 @@ const MOST_LETTERS: usize = 24;
 /// The least width, which the legend needs.
 const LEAST_WIDTH: u64 = 780;
 
-const STYLE: &str = "text{font:11px sans-serif;fill:#222}
+const HEAD: &str =
+    "<svg xmlns='http://www.w3.org/2000/svg' width='{}' height='{}' viewBox='0 0 {} {}'>\n";
+
+const STYLE: &str = "<style>text{font:11px sans-serif;fill:#222}
 .light{fill:#fff}
 .grid{stroke:#e4e4e4}
 .life{stroke:#888}
@@ -47,12 +48,26 @@ const STYLE: &str = "text{font:11px sans-serif;fill:#222}
 .value{fill:#222;stroke:#222}
 .error{fill:#b00020;stroke:#b00020}
 .wake{fill:#b00020;stroke:#b00020;stroke-width:1.5}
-.look{fill:#222}";
+.look{fill:#222}</style>
+";
+
+/// A line of the grid, with its number.
+const LINE: &str = "<path class='grid' d='M{} {}V{}'/><text x='{}' y='{}'>{}</text>\n";
+
+/// The answers of polls of an init.
+const PENDING: &str = "<circle class='pending' cx='{}' cy='{}' r='{}'/>\n";
+
+const VALUE: &str = "<circle class='value' cx='{}' cy='{}' r='{}'/>\n";
+
+/// An arrow that ends with a triangle.
+const ARROW: &str = "<path class='wake' d='M{} {}V{}L{} {}H{}L{} {}Z'/>\n";
+
+/// A triangle that points to the band.
+const MARK: &str = "<path class='look' d='M{} {}L{} {}H{}Z'/>\n";
 
 /// How a script of this size is drawn.
 #[derive(Clone, Copy)]
 pub struct Drawing<'a> {
-    alloc: Global,
     title: Beginning<'a>,
     lines: &'a [TextLine<'a>],
     lanes: &'a [Lane],
@@ -67,17 +82,11 @@ pub struct Drawing<'a> {
 }
 
 impl<'a> Drawing<'a> {
-    pub fn new(
-        alloc: Global,
-        title: &'a str,
-        lines: &'a [TextLine<'a>],
-        lanes: &'a Lanes,
-    ) -> Result<Self, AllocError> {
+    pub fn new(title: &'a str, lines: &'a [TextLine<'a>], lanes: &'a Lanes) -> Self {
         let lanes = lanes.as_slice();
         let last = lanes.iter().map(|lane| lane.task).max().unwrap_or(0);
-        let name = format!(in alloc; "task {last}")?;
+        let name = Label::with("task ", last);
         let mut drawing = Drawing {
-            alloc,
             title: Beginning(title, MOST_TITLE),
             lines,
             lanes,
@@ -98,27 +107,27 @@ impl<'a> Drawing<'a> {
             let lengths = lines.iter().map(|line| words_of(*line).len());
             drawing.below = room_of(lengths.max().unwrap_or(0));
         }
-        Ok(drawing)
+        drawing
     }
 
-    /// Writes the whole picture.
-    pub fn write<O: Write>(&self, shapes: &[Shape], output: &mut O) -> io::Result<()> {
-        self.write_head(output)?;
-        self.write_axis(output)?;
-        self.write_words_of_lines(output)?;
-        self.write_lanes(output)?;
+    /// Draws the whole picture.
+    pub fn draw(&self, shapes: &[Shape], svg: &mut Svg) {
+        self.draw_head(svg);
+        self.draw_axis(svg);
+        self.draw_words_of_lines(svg);
+        self.draw_lanes(svg);
         for layer in 0..LAYERS {
             for shape in shapes {
                 if shape.layer() == layer {
-                    self.write_shape(shape, output)?;
+                    self.draw_shape(shape, svg);
                 }
             }
         }
-        self.write_words_above(shapes, output)?;
-        self.write_look_words(shapes, output)?;
-        write_legend(self.foot().saturating_add(24), output)?;
-        self.write_left_out(output)?;
-        writeln!(output, "</svg>")
+        self.draw_words_above(shapes, svg);
+        self.draw_look_words(shapes, svg);
+        draw_legend(self.foot().saturating_add(24), svg);
+        self.draw_left_out(svg);
+        svg.add("</svg>\n");
     }
 
     /// Whether there is room for words in the columns.
@@ -160,161 +169,118 @@ impl<'a> Drawing<'a> {
         self.right().saturating_add(30).max(LEAST_WIDTH)
     }
 
-    fn write_head<O: Write>(&self, output: &mut O) -> io::Result<()> {
-        let width = self.width();
-        let height = self.foot().saturating_add(106);
-        writeln!(
-            output,
-            "<svg xmlns='http://www.w3.org/2000/svg' width='{width}' height='{height}' viewBox='0 0 {width} {height}'>"
-        )?;
-        writeln!(output, "<style>{STYLE}</style>")?;
-        writeln!(
-            output,
-            "<rect width='{width}' height='{height}' fill='#fff'/>"
-        )?;
-        writeln!(output, "<text x='8' y='18'>{}</text>", self.title)?;
-        write_text(output, 8, 52, "the cell")
+    fn draw_head(&self, svg: &mut Svg) {
+        let (width, height) = (self.width(), self.foot().saturating_add(106));
+        svg.fill(HEAD, &[width, height, width, height]);
+        svg.add(STYLE);
+        svg.fill(
+            "<rect width='{}' height='{}' fill='#fff'/>\n",
+            &[width, height],
+        );
+        svg.add("<text x='8' y='18'>");
+        self.title.draw(svg);
+        svg.add("<text x='8' y='52'>the cell</text>\n");
     }
 
     /// The number of each column's line, or of each tenth.
-    fn write_axis<O: Write>(&self, output: &mut O) -> io::Result<()> {
+    fn draw_axis(&self, svg: &mut Svg) {
         let (top, bottom) = (LANES, self.bottom());
         let words = bottom.saturating_add(14);
-        write_text(output, 8, words, "line")?;
+        svg.add_label(8, words, Label::of("line"));
         for (column, line) in self.lines.iter().enumerate() {
             if self.has_words() || column % 10 == 0 {
-                let (x, number) = (self.x((column as u64).saturating_mul(TICKS)), line.number);
-                writeln!(
-                    output,
-                    "<path class='grid' d='M{x} {top}V{bottom}'/><text x='{x}' y='{words}'>{number}</text>"
-                )?;
+                let x = self.x((column as u64).saturating_mul(TICKS));
+                svg.fill(LINE, &[x, top, bottom, x, words, line.number]);
             }
         }
-        Ok(())
     }
 
     /// What each line says, below its number. The words run downwards, since most lines are wider than a column. If
     /// there are many columns, they are narrower than a line of text is high, so the words are left out.
-    fn write_words_of_lines<O: Write>(&self, output: &mut O) -> io::Result<()> {
+    fn draw_words_of_lines(&self, svg: &mut Svg) {
         if !self.has_words() {
-            return Ok(());
+            return;
         }
         let y = self.bottom().saturating_add(20);
-        write_text(output, 8, y.saturating_add(10), "script")?;
+        svg.add_label(8, y.saturating_add(10), Label::of("script"));
         for (column, line) in self.lines.iter().enumerate() {
             let x = self
                 .x((column as u64).saturating_mul(TICKS))
                 .saturating_add(2);
-            writeln!(
-                output,
-                "<text transform='translate({x} {y}) rotate(90)'>{}</text>",
-                words_of(*line)
-            )?;
+            svg.fill("<text transform='translate({} {}) rotate(90)'>", &[x, y]);
+            words_of(*line).draw(svg);
         }
-        Ok(())
     }
 
     /// The name of each task, and a line from its making to its end.
-    fn write_lanes<O: Write>(&self, output: &mut O) -> io::Result<()> {
+    fn draw_lanes(&self, svg: &mut Svg) {
         let end = self.end();
         for (place, lane) in self.lanes.iter().enumerate() {
             let place = place as u64;
             let (from, to) = (self.x(lane.made), self.x(lane.gone.unwrap_or(end)));
             let y = self.y(place, 3);
-            writeln!(output, "<path class='life' d='M{from} {y}H{to}'/>")?;
+            svg.fill("<path class='life' d='M{} {}H{}'/>\n", &[from, y, to]);
             if self.unit > 1 || place % 2 == 0 {
-                let words = self.y(place, 3).saturating_add(4);
-                writeln!(output, "<text x='8' y='{words}'>task {}</text>", lane.task)?;
+                svg.add_label(8, y.saturating_add(4), Label::with("task ", lane.task));
             }
         }
-        Ok(())
     }
 
-    fn write_shape<O: Write>(&self, shape: &Shape, output: &mut O) -> io::Result<()> {
+    fn draw_shape(&self, shape: &Shape, svg: &mut Svg) {
         match shape {
-            Shape::Wait(span) => self.write_span(output, "wait", span, (2, 2)),
-            Shape::TaskPoll(span) => self.write_span(output, "poll", span, (1, 4)),
-            Shape::TaskDrop(span) => self.write_span(output, "drop", span, (1, 4)),
-            Shape::Hold(span) => self.write_span(output, "hold", span, (5, 1)),
-            Shape::InitPoll { lane, at, answer } => { self.write_poll(output, *lane, *at, *answer) }
-            Shape::Reply { lane, at, reply } => self.write_reply(output, *lane, *at, *reply),
-            Shape::Wake { at, caller, called } => self.write_wake(output, *at, *caller, *called),
-            Shape::Cell { from, to, state } => self.write_cell(output, *from, *to, *state),
-            Shape::Look { at, .. } => self.write_mark(output, *at, BAND_BOTTOM, BAND_BOTTOM + 7),
-            Shape::Owner { at, .. } => self.write_mark(output, *at, BAND, BAND - 7),
+            Shape::Wait(span) => self.draw_span("wait", *span, (2, 2), svg),
+            Shape::TaskPoll(span) => self.draw_span("poll", *span, (1, 4), svg),
+            Shape::TaskDrop(span) => self.draw_span("drop", *span, (1, 4), svg),
+            Shape::Hold(span) => self.draw_span("hold", *span, (5, 1), svg),
+            Shape::InitPoll { lane, at, answer } => self.draw_poll(*lane, *at, *answer, svg),
+            Shape::Reply { lane, at, reply } => self.draw_reply(*lane, *at, *reply, svg),
+            Shape::Wake { at, caller, called } => self.draw_wake(*at, *caller, *called, svg),
+            Shape::Cell { from, to, state } => self.draw_cell(*from, *to, *state, svg),
+            Shape::Look { at, .. } => self.draw_mark(*at, BAND_BOTTOM, BAND_BOTTOM + 7, svg),
+            Shape::Owner { at, .. } => self.draw_mark(*at, BAND, BAND - 7, svg),
         }
     }
 
     /// A bar, so many units below the top of its lane, and so many high.
-    fn write_span<O: Write>(
-        &self,
-        output: &mut O,
-        class: &str,
-        span: &Span,
-        (top, high): (u64, u64),
-    ) -> io::Result<()> {
+    fn draw_span(&self, class: &str, span: Span, (top, high): (u64, u64), svg: &mut Svg) {
         let (x, y) = (self.x(span.from), self.y(span.lane, top));
         let width = self.x(span.to).saturating_sub(x).max(2);
-        let height = high.saturating_mul(self.unit);
-        write_box(output, class, (x, y), (width, height))
+        svg.add_box(class, (x, y), (width, high.saturating_mul(self.unit)));
     }
 
-    fn write_poll<O: Write>(
-        &self,
-        output: &mut O,
-        lane: u64,
-        at: u64,
-        answer: Ran,
-    ) -> io::Result<()> {
+    fn draw_poll(&self, lane: u64, at: u64, answer: Ran, svg: &mut Svg) {
         let (x, y) = (self.x(at), self.y(lane, 3));
         let radius = self.unit.max(2);
-        let class = match answer {
-            Ran::Pending => "pending",
-            Ran::Value(_) => "value",
+        match answer {
+            Ran::Pending => svg.fill(PENDING, &[x, y, radius]),
+            Ran::Value(_) => svg.fill(VALUE, &[x, y, radius]),
             Ran::Error(_) => {
-                let (x, y) = (x.saturating_sub(radius), y.saturating_sub(radius));
+                let corner = (x.saturating_sub(radius), y.saturating_sub(radius));
                 let side = radius.saturating_mul(2);
-                return write_box(output, "error", (x, y), (side, side));
+                svg.add_box("error", corner, (side, side));
             }
-        };
-        writeln!(
-            output,
-            "<circle class='{class}' cx='{x}' cy='{y}' r='{radius}'/>"
-        )
+        }
     }
 
-    fn write_reply<O: Write>(
-        &self,
-        output: &mut O,
-        lane: u64,
-        at: u64,
-        reply: Reply,
-    ) -> io::Result<()> {
+    fn draw_reply(&self, lane: u64, at: u64, reply: Reply, svg: &mut Svg) {
         if !self.has_words() || self.unit < 4 {
-            return Ok(());
+            return;
         }
         let (x, y) = (self.x(at).saturating_add(3), self.y(lane, 4));
-        let word = match reply {
-            Reply::Pending => return Ok(()),
-            Reply::Value(value) => format!(in self.alloc; "v{value}")?,
-            Reply::Error(error) => format!(in self.alloc; "e{error}")?,
-            Reply::Memory => String::from_str(self.alloc, "memory")?,
-            Reply::Full => String::from_str(self.alloc, "full")?,
+        let label = match reply {
+            Reply::Pending => return,
+            Reply::Value(value) => Label::with("v", value),
+            Reply::Error(error) => Label::with("e", error),
+            Reply::Memory => Label::of("memory"),
+            Reply::Full => Label::of("full"),
         };
-        if x.saturating_add(room_of(word.len())) > self.width() {
-            return Ok(());
+        if x.saturating_add(room_of(label.len())) <= self.width() {
+            svg.add_label(x, y, label);
         }
-        write_text(output, x, y, &word)
     }
 
     /// An arrow from one lane to another.
-    fn write_wake<O: Write>(
-        &self,
-        output: &mut O,
-        at: u64,
-        caller: u64,
-        called: u64,
-    ) -> io::Result<()> {
+    fn draw_wake(&self, at: u64, caller: u64, called: u64, svg: &mut Svg) {
         let (x, start) = (self.x(at), self.y(caller, 6));
         let (left, right) = (x.saturating_sub(3), x.saturating_add(3));
         let is_down = called > caller;
@@ -324,112 +290,92 @@ impl<'a> Drawing<'a> {
         } else {
             tip.saturating_add(6)
         };
-        writeln!(
-            output,
-            "<path class='wake' d='M{x} {start}V{tip}L{left} {back}H{right}L{x} {tip}Z'/>"
-        )
+        svg.fill(ARROW, &[x, start, tip, left, back, right, x, tip]);
     }
 
-    fn write_cell<O: Write>(
-        &self,
-        output: &mut O,
-        from: u64,
-        to: u64,
-        state: CellState,
-    ) -> io::Result<()> {
+    fn draw_cell(&self, from: u64, to: u64, state: CellState, svg: &mut Svg) {
         let x = self.x(from);
         let width = self.x(to).saturating_sub(x);
         if width == 0 {
-            return Ok(());
+            return;
         }
         let class = match state {
             CellState::Empty => "empty",
             CellState::Held(_) => "held",
             CellState::Set(_) => "set",
         };
-        write_box(output, class, (x, BAND), (width, BAND_HEIGHT))?;
-        let word = format!(in self.alloc; "{state}")?;
-        if room_of(word.len()) > width {
-            return Ok(());
+        svg.add_box(class, (x, BAND), (width, BAND_HEIGHT));
+        let label = state.label();
+        if room_of(label.len()) > width {
+            return;
         }
         let (x, y) = (x.saturating_add(4), BAND.saturating_add(12));
         match state {
-            CellState::Set(_) => writeln!(
-                output,
-                "<text class='light' x='{x}' y='{y}'>{word}</text>"
-            ),
-            CellState::Empty | CellState::Held(_) => write_text(output, x, y, &word),
+            CellState::Set(value) => {
+                let light = "<text class='light' x='{}' y='{}'>set: v{}</text>\n";
+                svg.fill(light, &[x, y, value]);
+            }
+            CellState::Empty | CellState::Held(_) => svg.add_label(x, y, label),
         }
     }
 
     /// A mark whose tip touches the band of the cell.
-    fn write_mark<O: Write>(&self, output: &mut O, at: u64, tip: u64, back: u64) -> io::Result<()> {
+    fn draw_mark(&self, at: u64, tip: u64, back: u64, svg: &mut Svg) {
         let x = self.x(at);
         let (left, right) = (x.saturating_sub(4), x.saturating_add(4));
-        writeln!(
-            output,
-            "<path class='look' d='M{x} {tip}L{left} {back}H{right}Z'/>"
-        )
+        svg.fill(MARK, &[x, tip, left, back, right]);
     }
 
     /// Above the band: the owner's calls, and the holders whose names have no room in the band.
-    fn write_words_above<O: Write>(&self, shapes: &[Shape], output: &mut O) -> io::Result<()> {
+    fn draw_words_above(&self, shapes: &[Shape], svg: &mut Svg) {
         let (y, mut free) = (BAND - 4, 0u64);
         for shape in shapes {
             match shape {
                 Shape::Owner { at, word } => {
                     let x = self.x(*at).saturating_add(6);
-                    free = self.write_word(output, (x, y), word, free)?;
+                    free = self.draw_word((x, y), Label::of(word), free, svg);
                 }
                 Shape::Cell { from, to, state } if matches!(state, CellState::Held(_)) => {
-                    let (x, word) = (self.x(*from), format!(in self.alloc; "{state}")?);
+                    let (x, word) = (self.x(*from), state.label());
                     if room_of(word.len()) > self.x(*to).saturating_sub(x) {
-                        free = self.write_word(output, (x, y), &word, free)?;
+                        free = self.draw_word((x, y), word, free, svg);
                     }
                 }
                 _ => {}
             }
         }
-        Ok(())
     }
 
     /// What looks found, below the band.
-    fn write_look_words<O: Write>(&self, shapes: &[Shape], output: &mut O) -> io::Result<()> {
+    fn draw_look_words(&self, shapes: &[Shape], svg: &mut Svg) {
         let mut free = 0u64;
         for shape in shapes {
             if let Shape::Look { at, value } = shape {
                 let word = match value {
-                    Some(value) => format!(in self.alloc; "v{value}")?,
-                    None => String::from_str(self.alloc, "none")?,
+                    Some(value) => Label::with("v", *value),
+                    None => Label::of("none"),
                 };
                 let x = self.x(*at).saturating_add(6);
-                free = self.write_word(output, (x, BAND_BOTTOM + 11), &word, free)?;
+                free = self.draw_word((x, BAND_BOTTOM + 11), word, free, svg);
             }
         }
-        Ok(())
     }
 
-    /// Writes a word into a row, which is free from `free` on, if there is room. Answers from where on it is free then.
-    fn write_word<O: Write>(
-        &self,
-        output: &mut O,
-        (x, y): (u64, u64),
-        word: &str,
-        free: u64,
-    ) -> io::Result<u64> {
+    /// Draws a word into a row, which is free from `free` on, if there is room. Answers from where on it is free then.
+    fn draw_word(&self, (x, y): (u64, u64), word: Label, free: u64, svg: &mut Svg) -> u64 {
         let end = x.saturating_add(room_of(word.len()));
         if !self.has_words() || x < free || end > self.width() {
-            return Ok(free);
+            return free;
         }
-        write_text(output, x, y, word)?;
-        Ok(end)
+        svg.add_label(x, y, word);
+        end
     }
 
     /// Says what a large picture leaves out.
-    fn write_left_out<O: Write>(&self, output: &mut O) -> io::Result<()> {
+    fn draw_left_out(&self, svg: &mut Svg) {
         let y = self.foot().saturating_add(96);
         let text = match (self.has_words(), self.unit) {
-            (true, 4) => return Ok(()),
+            (true, 4) => return,
             (true, 2) => "Left out, since there are many tasks: what polls answer.",
             (true, _) =>
                 "Left out, since there are many tasks: what polls answer, and every other name.",
@@ -440,7 +386,7 @@ impl<'a> Drawing<'a> {
                 "Left out, since there are many lines: what lines say, polls answer, looks find and the owner calls, \
                 the names of short holds, and nine of ten numbers of lines.",
         };
-        write_text(output, 8, y, text)
+        svg.add_label(8, y, Label::of(text));
     }
 }
 
@@ -462,36 +408,21 @@ impl Beginning<'_> {
             self.0.len()
         }
     }
-}
 
-impl fmt::Display for Beginning<'_> {
-    fn fmt<W: fmt::Write>(&self, f: &mut fmt::Formatter<W>) -> fmt::Result {
+    /// Draws it as the words of a text, and ends that.
+    fn draw(self, svg: &mut Svg) {
         match self.0.get(..self.1) {
-            Some(begin) if begin.len() < self.0.len() => write!(f, "{begin}.."),
-            _ => f.write_str(self.0),
+            Some(begin) if begin.len() < self.0.len() => {
+                svg.add(begin);
+                svg.add("..");
+            }
+            _ => svg.add(self.0),
         }
+        svg.add("</text>\n");
     }
 }
 
 /// What is written of a line below its number.
 fn words_of<'a>(line: TextLine<'a>) -> Beginning<'a> {
     Beginning(line.text, MOST_LETTERS)
-}
-
-/// Writes a text that needs no escapes.
-fn write_text<O: Write>(output: &mut O, x: u64, y: u64, text: &str) -> io::Result<()> {
-    writeln!(output, "<text x='{x}' y='{y}'>{text}</text>")
-}
-
-/// Writes a rectangle.
-fn write_box<O: Write>(
-    output: &mut O,
-    class: &str,
-    (x, y): (u64, u64),
-    (width, height): (u64, u64),
-) -> io::Result<()> {
-    writeln!(
-        output,
-        "<rect class='{class}' x='{x}' y='{y}' width='{width}' height='{height}'/>"
-    )
 }

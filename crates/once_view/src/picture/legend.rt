@@ -1,6 +1,5 @@
 //! What the shapes of a picture mean.
-use std::io;
-use std::io::Write;
+use super::svg::Svg;
 
 /// The legend, as it stands at the top left. Bars are as high and as low in their row as in a lane.
 const LEGEND: &str = "<rect class='poll' x='8' y='2' width='24' height='16'/>
@@ -32,8 +31,9 @@ const LEGEND: &str = "<rect class='poll' x='8' y='2' width='24' height='16'/>
 <text x='8' y='56'>At the end of a task's last poll stands its answer. \
 Each line of the script stands below its number. A word without room is left out.</text>";
 
-/// Writes the legend, below this height.
-pub fn write_legend<O: Write>(top: u64, output: &mut O) -> io::Result<()> {
-    writeln!(output, "<g transform='translate(0 {top})'>")?;
-    writeln!(output, "{LEGEND}</g>")
+/// Draws the legend, below this height.
+pub fn draw_legend(top: u64, svg: &mut Svg) {
+    svg.fill("<g transform='translate(0 {})'>\n", &[top]);
+    svg.add(LEGEND);
+    svg.add("</g>\n");
 }

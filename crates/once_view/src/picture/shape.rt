@@ -1,6 +1,6 @@
 //! What a picture is made of. A time is a number of ticks, and a lane its number from the top.
+use super::svg::Label;
 use once_script::world::{Ran, Reply};
-use std::fmt;
 
 /// What the cell is.
 #[derive(Clone, Copy)]
@@ -11,12 +11,13 @@ pub enum CellState {
     Set(u64),
 }
 
-impl fmt::Display for CellState {
-    fn fmt<W: fmt::Write>(&self, f: &mut fmt::Formatter<W>) -> fmt::Result {
+impl CellState {
+    /// How it is shown.
+    pub fn label(self) -> Label {
         match self {
-            CellState::Empty => f.write_str("empty"),
-            CellState::Held(task) => write!(f, "held by {task}"),
-            CellState::Set(value) => write!(f, "set: v{value}"),
+            CellState::Empty => Label::of("empty"),
+            CellState::Held(task) => Label::with("held by ", task),
+            CellState::Set(value) => Label::with("set: v", value),
         }
     }
 }
