@@ -5,7 +5,6 @@ use crate::fault::Fault;
 use async_once_cell::OnceCell;
 use futures::future::ready;
 use std::alloc::AllocGlobal;
-use std::io::Write;
 use std::random::RandomSource;
 use std::sync::Wait;
 
@@ -37,19 +36,12 @@ where
     Ok((fetched.key, fetched.value))
 }
 
-/// Looks at a cell and asks it, and prints what was seen and told.
-pub fn show<R, O>(rt: &R, output: &mut O) -> Result<(), Fault>
+/// What two calls are told of a cell, and what a look finds then.
+pub fn ask_twice<R>(rt: &R) -> ([Result<(u64, u64), Fault>; 2], Option<(u64, u64)>)
 where
     R: Wait + RandomSource + AllocGlobal,
-    O: Write,
 {
     let cell = OnceCell::new();
-    let before = look(&cell);
-    let (first, second) = (told(rt, &cell, 7)?, told(rt, &cell, 8)?);
-    let after = look(&cell);
-    writeln!(
-        output,
-        "ten times the key: {before:?} {first:?} {second:?} {after:?}"
-    )?;
-    Ok(())
+    let told = [told(rt, &cell, 7), told(rt, &cell, 8)];
+    (told, look(&cell))
 }

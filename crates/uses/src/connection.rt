@@ -9,38 +9,31 @@ use futures::Future;
 use futures::task::{Context, Poll};
 use std::alloc::AllocGlobal;
 use std::cell::Cell;
-use std::io::Write;
 use std::random::RandomSource;
 use std::sync::Wait;
 
 /// A connection, with the number of the try that made it.
-#[derive(Clone, Copy, Debug, PartialEq, Eq)]
+#[derive(Clone, Copy, Debug)]
 pub struct Connection {
     number: u64,
 }
 
 /// The other side does not answer.
-#[derive(Clone, Copy, Debug, PartialEq, Eq)]
-pub struct Down;
+#[derive(Clone, Copy)]
+struct Down;
 
-/// The other side: it answers at its third try.
-#[derive(Drop)]
-struct Server {
-    tries: Cell<u64>,
-}
-
-/// The init: one try.
+/// One try of those that are counted. The other side answers at the third.
 #[derive(Drop)]
 struct Dial<'a> {
-    server: &'a Server,
+    tries: &'a Cell<u64>,
 }
 
 impl Future for Dial<'_> {
     type Output = Result<Connection, Down>;
 
     fn poll(&mut self, _cx: &mut Context<'_>) -> Poll<Result<Connection, Down>> {
-        let number = self.server.tries.get().saturating_add(1);
-        self.server.tries.set(number);
+        let number = self.tries.get().saturating_add(1);
+        self.tries.set(number);
         if number < 3 {
             return Poll::Ready(Err(Down));
         }
@@ -61,11 +54,19 @@ fn is_down(tried: Result<&Connection, InitError<Down>>) -> Result<bool, Fault>
     }
 }
 
+/// Tries once, if there is no connection. Whether the other side did not answer.
+fn try_once<R>(rt: &R, cell: &OnceCell<Connection>, tries: &Cell<u64>) -> Result<bool, Fault>
+where
+    R: Wait + RandomSource + AllocGlobal,
+{
+    is_down(cell.get_or_try_init(rt, Dial { tries }).wait()?)
+}
+
 /// The connection, after at most so many tries. It is the one that the token knows, for good.
 fn connect<'a, R>(
     rt: &'a R,
     cell: &'a OnceCell<Connection>,
-    server: &'a Server,
+    tries: &'a Cell<u64>,
     token: &mut Known<'a, Connection>,
     most: u64,
 ) -> Result<Connection, Fault>
@@ -76,38 +77,21 @@ where
     ensures value { IfOk result (λ connection. token.new.value ≡ Some connection) }
 {
     for _ in 0..most {
-        if !is_down(cell.get_or_try_init(rt, Dial { server }).wait()?)? {
+        if !try_once(rt, cell, tries)? {
             break;
         }
     }
     cell.get_as(token).copied().ok_or(Fault::Tries(most))
 }
 
-// Prints what a caller was told.
-fn show_told<O: Write>(output: &mut O, told: Result<Connection, Fault>) -> Result<(), Fault> {
-    match told {
-        Ok(Connection { number }) => writeln!(output, "connected at try {number}")?,
-        Err(Fault::Tries(tries)) => writeln!(output, "no connection after {tries} tries")?,
-        Err(other) => return Err(other),
-    }
-    Ok(())
-}
-
-/// Connects with too few tries, and then with enough.
-pub fn show<R, O>(rt: &R, output: &mut O) -> Result<(), Fault>
+/// What a caller is told that tries too few times, and what two are told that try often enough.
+pub fn connect_thrice<R>(rt: &R) -> [Result<Connection, Fault>; 3]
 where
     R: Wait + RandomSource + AllocGlobal,
-    O: Write,
 {
-    let (cell, server) = (
-        OnceCell::new(),
-        Server {
-            tries: Cell::new(0),
-        },
-    );
-    for most in [2, 4, 4] {
-        let told = connect(rt, &cell, &server, &mut cell.token(), most);
-        show_told(output, told)?;
-    }
-    Ok(())
+    let (cell, tries) = (OnceCell::new(), Cell::new(0));
+    let first = connect(rt, &cell, &tries, &mut cell.token(), 2);
+    let second = connect(rt, &cell, &tries, &mut cell.token(), 4);
+    let third = connect(rt, &cell, &tries, &mut cell.token(), 4);
+    [first, second, third]
 }

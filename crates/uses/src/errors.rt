@@ -2,30 +2,14 @@
 ghost use Rattle.std.specs.Prelude.{◌≡◌, Err, IfErr, IfOk};
 ghost use Rattle.async_once_cell.specs.Inits.{IfInit};
 
-use crate::fault::Fault;
 use async_once_cell::{InitError, OnceCell};
 use futures::Future;
 use futures::executor::block_on;
 use futures::future::err;
 use std::alloc::AllocGlobal;
-use std::io::{self, Write};
+use std::io;
 use std::random::RandomSource;
 use std::sync::Wait;
-
-/// If a wait tells the error of an init, it is an error that the caller's own init may give.
-fn own_error_by_wait<'a, F, R>(
-    rt: &'a R,
-    cell: &'a OnceCell<u64>,
-    init: F,
-) -> io::Result<Result<&'a u64, InitError<u64>>>
-where
-    F: Future<Output = Result<u64, u64>>,
-    R: Wait + RandomSource + AllocGlobal,
-    requires { F.can_poll init }
-    ensures { IfOk result (λ told. IfErr told (λ error. IfInit error (λ e. F.gives init (Err e)))) }
-{
-    cell.get_or_try_init(rt, init).wait()
-}
 
 /// Tries once more if there is no value. If this tells the error of an init, it is one that the second init may give.
 fn own_error_by_second_try<'a, F, G, R>(
@@ -61,16 +45,28 @@ where
     block_on(rt, cell.get_or_try_init(rt, err::<u64, u64>(7)))
 }
 
-/// Has four inits fail on one cell, and prints what each caller was told.
-pub fn show<R, O>(rt: &R, output: &mut O) -> Result<(), Fault>
+/// What a caller is told, whose init fails.
+fn fail<R>(rt: &R, cell: &OnceCell<u64>) -> io::Result<Result<u64, InitError<u64>>>
 where
     R: Wait + RandomSource + AllocGlobal,
-    O: Write,
+{
+    Ok(own_error_by_block_on(rt, cell)?.copied())
+}
+
+/// What a caller is told that tries twice.
+fn fail_again<R>(rt: &R, cell: &OnceCell<u64>) -> io::Result<Result<u64, InitError<u64>>>
+where
+    R: Wait + RandomSource + AllocGlobal,
+{
+    let (first, second) = (err::<u64, u64>(8), err::<u64, u64>(9));
+    Ok(own_error_by_second_try(rt, cell, first, second)?.copied())
+}
+
+/// What two callers of a new cell are told, whose inits fail.
+pub fn fail_twice<R>(rt: &R) -> io::Result<[Result<u64, InitError<u64>>; 2]>
+where
+    R: Wait + RandomSource + AllocGlobal,
 {
     let cell = OnceCell::new();
-    let first = own_error_by_wait(rt, &cell, err::<u64, u64>(6))?;
-    let second = own_error_by_block_on(rt, &cell)?;
-    let third = own_error_by_second_try(rt, &cell, err::<u64, u64>(8), err::<u64, u64>(9))?;
-    writeln!(output, "inits that fail: {first:?} {second:?} {third:?}")?;
-    Ok(())
+    Ok([fail(rt, &cell)?, fail_again(rt, &cell)?])
 }

@@ -10,30 +10,21 @@ mod sizes;
 mod token;
 
 pub use own_error::Fault;
+
+use crate::{fault, print, print_value};
 use std::alloc::AllocGlobal;
-use std::fmt::Debug;
 use std::random::RandomSource;
 use std::sync::Wait;
 use std::thread::Threads;
 
-/// Prints what a program gives.
-fn print<R: Print, T: Debug + Drop>(
-    rt: &R,
-    name: &str,
-    given: Result<T, Fault>,
-) -> Result<(), Fault> {
-    println!(rt; "{name}: {:?}", given?)?;
-    Ok(())
-}
-
 /// Prints what each of the programs gives, and how many bytes things have.
-pub fn show<R>(rt: &R) -> Result<(), Fault>
+pub fn show<R>(rt: &R) -> Result<(), fault::Fault>
 where
     R: Print + Threads + Wait + RandomSource + AllocGlobal + Sync,
 {
     print(rt, "lent to two threads", lent::ask_twice(rt))?;
     print(rt, "an init of one's own", own_init::ask_twice(rt))?;
-    println!(rt; "an error of one's own: {:?}", own_error::ask_thrice(rt))?;
+    print_value(rt, "an error of one's own", own_error::ask_thrice(rt))?;
     print(rt, "a lazy cell", lazy::ask_twice(rt))?;
     print(rt, "a lazy cell over another", graph::ask(rt))?;
     print(rt, "a token", token::ask_twice(rt))?;

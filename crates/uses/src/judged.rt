@@ -1,15 +1,13 @@
 //! A program that writes down what it sees of a cell, and has that judged at its end: whether a run of the cell has it.
 
-use crate::fault::Fault;
 use async_once_cell::record::{Entry, Kind, Ran, Reply};
 use async_once_cell::{InitFuture, OnceCell, Refused};
 use futures::Future;
 use futures::executor::block_on;
 use futures::task::{Context, Poll};
 use once_judge::{Calls, Verdict, judge};
-use once_view::observed::{Answer, Event, Observed, linearize};
+use once_view::observed::{Answer, BadEvents, Event, Observed, linearize};
 use std::alloc::AllocGlobal;
-use std::io::Write;
 use std::random::RandomSource;
 use std::sync::{Mutex, Wait};
 use std::thread::{self, Threads};
@@ -36,11 +34,11 @@ impl Log {
     }
 }
 
-/// An init that is Pending so often, and then gives the number of its task. Each poll of it is written down.
+/// An init that lets others run once, and then gives the number of its task. Each poll of it is written down.
 #[derive(Drop)]
 struct Slow<'a, R> {
     task: u64,
-    pending: u64,
+    is_polled: bool,
     log: &'a Log,
     rt: &'a R,
 }
@@ -49,27 +47,22 @@ impl<R: Wait> Future for Slow<'_, R> {
     type Output = u64;
 
     fn poll(&mut self, cx: &mut Context<'_>) -> Poll<u64> {
-        match self.pending.checked_sub(1) {
-            None => {
-                let answer = Ran::Value(self.task);
-                self.log.write(self.rt, Entry::Ran(self.task, answer));
-                Poll::Ready(self.task)
-            }
-            Some(left) => {
-                self.pending = left;
-                self.log.write(self.rt, Entry::Ran(self.task, Ran::Pending));
-                cx.yield_now()
-            }
+        if self.is_polled {
+            let answer = Ran::Value(self.task);
+            self.log.write(self.rt, Entry::Ran(self.task, answer));
+            return Poll::Ready(self.task);
         }
+        self.is_polled = true;
+        self.log.write(self.rt, Entry::Ran(self.task, Ran::Pending));
+        cx.yield_now()
     }
 }
 
-/// A task that asks the cell, and gives up after so many polls. Each call of it is written down.
+/// A task that asks the cell. Each poll of it is written down.
 #[derive(Drop)]
 struct Task<'a, R: Wait + AllocGlobal> {
     number: u64,
-    polls: u64,
-    future: Option<InitFuture<'a, u64, Slow<'a, R>, R>>,
+    future: InitFuture<'a, u64, Slow<'a, R>, R>,
     log: &'a Log,
     rt: &'a R,
 }
@@ -78,24 +71,14 @@ impl<R: Wait + AllocGlobal> Future for Task<'_, R> {
     type Output = ();
 
     fn poll(&mut self, cx: &mut Context<'_>) -> Poll<()> {
-        let (log, rt, task) = (self.log, self.rt, self.number);
-        let Some(future) = &mut self.future else {
-            return Poll::Ready(());
-        };
-        log.write(rt, Entry::Begin(task, task));
-        let reply = heard(Future::poll(future, cx));
-        log.write(rt, Entry::End(task, reply));
-        if reply != Reply::Pending {
-            return Poll::Ready(());
+        self.log
+            .write(self.rt, Entry::Begin(self.number, self.number));
+        let reply = heard(Future::poll(&mut self.future, cx));
+        self.log.write(self.rt, Entry::End(self.number, reply));
+        match reply {
+            Reply::Pending => Poll::Pending,
+            _ => Poll::Ready(()),
         }
-        self.polls = self.polls.saturating_sub(1);
-        if self.polls == 0 {
-            log.write(rt, Entry::DropBegin(task));
-            self.future = None;
-            log.write(rt, Entry::DropEnd(task));
-            return Poll::Ready(());
-        }
-        cx.yield_now()
     }
 }
 
@@ -109,36 +92,29 @@ fn heard(polled: Poll<Result<&u64, Refused>>) -> Reply {
     }
 }
 
-/// Has three threads ask a cell, each by a task of its own. The first two may give up.
-fn asked_by_three<R>(rt: &R, cell: &OnceCell<u64>, log: &Log) -> Result<(), Fault>
+/// Has this thread ask a cell by a task.
+fn ask<R>(rt: &R, cell: &OnceCell<u64>, log: &Log, task: u64) -> bool
 where
-    R: Threads + Wait + RandomSource + AllocGlobal + Sync,
+    R: Wait + RandomSource + AllocGlobal,
 {
-    let ask = |thread: usize| {
-        let number = thread as u64;
-        log.write(rt, Entry::Made(number));
-        let pending = 3;
-        let init = Slow {
-            task: number,
-            pending,
-            log,
-            rt,
-        };
-        let task = Task {
-            number,
-            polls: if number < 2 { 2 } else { 1000 },
-            future: Some(cell.get_or_init(rt, init)),
-            log,
-            rt,
-        };
-        block_on(rt, task).is_ok()
+    log.write(rt, Entry::Made(task));
+    let init = Slow {
+        task,
+        is_polled: false,
+        log,
+        rt,
     };
-    thread::map_indices(rt, rt.alloc(), 3, &ask)?;
-    Ok(())
+    let task = Task {
+        number: task,
+        future: cell.get_or_init(rt, init),
+        log,
+        rt,
+    };
+    block_on(rt, task).is_ok()
 }
 
 /// Whether a run of a cell has what was written down, and nobody is forgotten in it.
-fn is_run<R: AllocGlobal>(rt: &R, events: Vec<Event>) -> Result<bool, Fault> {
+fn is_run<R: AllocGlobal>(rt: &R, events: Vec<Event>) -> Result<bool, BadEvents> {
     let observed = Observed {
         kind: Kind::Once,
         limit: MOST,
@@ -158,25 +134,20 @@ fn is_run<R: AllocGlobal>(rt: &R, events: Vec<Event>) -> Result<bool, Fault> {
     ))
 }
 
-/// Has three threads ask a cell, and prints whether what they saw is of a run.
-pub fn show<R, O>(rt: &R, output: &mut O) -> Result<(), Fault>
+/// Has three threads ask a cell. Whether what they saw is of a run.
+pub fn ask_thrice<R>(rt: &R) -> Result<bool, BadEvents>
 where
     R: Threads + Wait + RandomSource + AllocGlobal + Sync,
-    O: Write,
 {
     let log = Log {
         events: Mutex::new(Some(Vec::new(rt.alloc()))),
     };
     let cell = OnceCell::new();
-    asked_by_three(rt, &cell, &log)?;
+    let ask = |thread: usize| ask(rt, &cell, &log, thread as u64);
+    thread::map_indices(rt, rt.alloc(), 3, &ask)?;
     let events = log.events.lock(rt).take();
-    let is_run = match events {
-        Some(events) => is_run(rt, events)?,
-        None => false,
-    };
-    writeln!(
-        output,
-        "what three threads saw of a cell is of a run: {is_run}"
-    )?;
-    Ok(())
+    match events {
+        Some(events) => is_run(rt, events),
+        None => Ok(false),
+    }
 }

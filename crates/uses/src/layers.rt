@@ -4,9 +4,9 @@ ghost use Rattle.std.specs.Prelude.{◌≡◌, IfOk};
 use crate::fault::Fault;
 use async_once_cell::{Lazy, LazyFuturePin, Refused};
 use futures::Future;
+use futures::future::ready;
 use futures::task::{Context, Poll};
 use std::alloc::AllocGlobal;
-use std::io::Write;
 use std::random::RandomSource;
 use std::sync::Wait;
 
@@ -24,16 +24,10 @@ struct Double {
     ghost ten: { number ≡ 10 },
 }
 
-/// The init of the lower cell.
-#[derive(Drop)]
-struct MakesBase;
-
-impl Future for MakesBase {
-    type Output = Base;
-
-    fn poll(&mut self, _cx: &mut Context<'_>) -> Poll<Base> {
-        Poll::Ready(Base { number: 5 })
-    }
+/// Twice what the lower cell answered.
+fn twice(base: Result<&Base, Refused>) -> Result<Double, Refused> {
+    let number = base?.number * 2;
+    Ok(Double { number })
 }
 
 /// The init of the upper cell, which asks the lower.
@@ -47,11 +41,7 @@ impl<F: Future<Output = Base>, R: Wait + AllocGlobal> Future for Doubles<'_, F, 
 
     fn poll(&mut self, cx: &mut Context<'_>) -> Poll<Result<Double, Refused>> {
         match Future::poll(&mut self.base, cx) {
-            Poll::Ready(Ok(base)) => {
-                let number = base.number * 2;
-                Poll::Ready(Ok(Double { number }))
-            }
-            Poll::Ready(Err(refused)) => Poll::Ready(Err(refused)),
+            Poll::Ready(base) => Poll::Ready(twice(base)),
             Poll::Pending => Poll::Pending,
         }
     }
@@ -81,14 +71,10 @@ where
     told(rt, &double)
 }
 
-/// Prints the number of the upper cell.
-pub fn show<R, O>(rt: &R, output: &mut O) -> Result<(), Fault>
+/// The number of an upper cell over a new one.
+pub fn ask<R>(rt: &R) -> Result<u64, Fault>
 where
     R: Wait + RandomSource + AllocGlobal,
-    O: Write,
 {
-    let base = Lazy::new(MakesBase);
-    let number = doubled(rt, &base)?;
-    writeln!(output, "a lazy cell over another, by type: {number}")?;
-    Ok(())
+    doubled(rt, &Lazy::new(ready(Base { number: 5 })))
 }

@@ -1,32 +1,14 @@
 //! A future that leaves its cell by a call. A drop can have no contract, and this call has one.
 ghost use Rattle.std.specs.Prelude.{◌≡◌, IfSome, None, false, true};
-ghost use Rattle.async_once_cell.specs.Polls.{HasLeft};
 
 use crate::fault::Fault;
-use async_once_cell::{InitFuture, OnceCell, Refused};
+use async_once_cell::{InitFuture, OnceCell};
 use futures::future::{Pending, Ready, pending, ready};
 use futures::task::{Context, Poll};
 use futures::test::MockTask;
 use std::alloc::AllocGlobal;
-use std::io::Write;
 use std::random::RandomSource;
 use std::sync::Wait;
-
-/// What a poll of one future answers once another has left. The other left as by a drop.
-fn polled_once_it_left<'a, R>(
-    leaver: &mut InitFuture<'a, u64, Pending<u64>, R>,
-    future: &mut InitFuture<'a, u64, Ready<u64>, R>,
-    cx: &mut Context<'_>,
-) -> Poll<Result<&'a u64, Refused>>
-where
-    R: Wait + AllocGlobal,
-    requires unfinished { (leaver.old.finished ≡ false) × (future.old.finished ≡ false) }
-    ensures left { HasLeft leaver.old leaver.new }
-    ensures init { leaver.new.init ≡ None }
-{
-    leaver.leave();
-    future.poll(cx)
-}
 
 /// What a future is told that waits for another, whose init stays Pending. The other leaves, and cannot be polled
 /// again; then the future runs its own init.
@@ -68,31 +50,10 @@ where
     told_once_it_left(&mut holder, &mut waiter, cx)
 }
 
-/// What a future is told once the only other one, which was never polled, has left the cell.
-fn told_to_one<R>(rt: &R, cx: &mut Context<'_>) -> Option<u64>
-where
-    R: Wait + AllocGlobal,
-{
-    let cell = OnceCell::new();
-    let (mut leaver, mut future) = (
-        cell.get_or_init(rt, pending()),
-        cell.get_or_init(rt, ready(3)),
-    );
-    match polled_once_it_left(&mut leaver, &mut future, cx) {
-        Poll::Ready(Ok(value)) => Some(*value),
-        Poll::Ready(Err(_)) | Poll::Pending => None,
-    }
-}
-
-/// Prints what those that stay are told.
-pub fn show<R, O>(rt: &R, output: &mut O) -> Result<(), Fault>
+/// What a future is told once the one that it waited for has left.
+pub fn ask<R>(rt: &R) -> Result<Option<u64>, Fault>
 where
     R: Wait + RandomSource + AllocGlobal,
-    O: Write,
 {
-    let task = MockTask::new(rt)?;
-    let second = task.enter(|cx| told_to_the_second(rt, cx));
-    let one = task.enter(|cx| told_to_one(rt, cx));
-    writeln!(output, "told once another left: {second:?} {one:?}")?;
-    Ok(())
+    Ok(MockTask::new(rt)?.enter(|cx| told_to_the_second(rt, cx)))
 }

@@ -1,9 +1,9 @@
 //! What such cells are for: what a Rust programmer writes with `async`, the examples of doc comments, settings that
-//! are read once, a connection, a graph of values, a pool of tasks, settings that threads load anew, a cell that
-//! threads own together, many threads, tasks that give up, and a value whose type has a fact. Besides, what a caller
-//! can say of order, which value a poll answered, whose error it is told, what the owner of a cell gets, also of a lazy
-//! one, what a cell promises of its value, and what is left by a call. At last, how a program has judged what it sees
-//! of a cell, and how one replays, judges and draws what stands in texts.
+//! are read once, a connection, a pool of tasks, a setting that threads load anew, a cell that threads own together,
+//! many threads, tasks that give up, and a value whose type has a fact. Besides, what a caller can say of order, which
+//! value a poll answered, whose error it is told, what the owner of a cell gets, also of a lazy one, what a cell
+//! promises of its value, and what is left by a call. At last, how a program has judged what it sees of a cell, and how
+//! one replays, judges and draws what stands in texts.
 //!
 //! Ten contracts that a caller may want, each of a function that needs no proof file:
 //!
@@ -19,7 +19,6 @@
 //! - what a refused poll leaves, and what its error says: `refusal_of` of `refusals`, `is_down` of `connection`
 #![tactic(auto)]
 
-mod ask;
 mod by_type;
 mod connection;
 mod errors;
@@ -27,7 +26,6 @@ mod examples;
 mod fault;
 mod from_rust;
 mod giving_up;
-mod graph;
 mod judged;
 mod layers;
 mod lazy;
@@ -41,53 +39,87 @@ mod promised;
 mod refusals;
 mod reload;
 mod settings;
+mod slow;
 mod stored;
 mod told;
 mod values;
 
 use fault::Fault;
 use std::alloc::AllocGlobal;
+use std::fmt::Debug;
 use std::fs::Files;
-use std::io;
-use std::io::Write;
 use std::process::ExitCode;
 use std::random::RandomSource;
 use std::sync::Wait;
 use std::thread::Threads;
-use std::time::Clock;
 
-fn run<R, O>(rt: &R, output: &mut O) -> Result<(), Fault>
+/// Prints a value.
+fn print_value<R, T>(rt: &R, name: &str, value: T) -> Result<(), Fault>
 where
-    R: Print + Files + Threads + Wait + RandomSource + AllocGlobal + Clock,
+    R: Print,
+    T: Debug + Drop,
+{
+    println!(rt; "{name}: {value:?}")?;
+    Ok(())
+}
+
+/// Prints what an example gives.
+fn print<R, T, E>(rt: &R, name: &str, given: Result<T, E>) -> Result<(), Fault>
+where
+    R: Print,
+    T: Debug + Drop,
+    E: Drop,
+    Fault: From<E>,
+{
+    print_value(rt, name, given?)
+}
+
+/// Prints what such cells do for programs.
+fn show_programs<R>(rt: &R) -> Result<(), Fault>
+where
+    R: Print + Threads + Wait + RandomSource + AllocGlobal + Copy + Send + Sync + 'static,
+{
+    print_value(rt, "three connections", connection::connect_thrice(rt))?;
+    print(rt, "four tasks of a pool", pool::ask(rt))?;
+    print_value(rt, "loaded, and loaded anew", reload::load_twice(rt))?;
+    print(rt, "two owners", owned_together::ask_twice(*rt))?;
+    print(rt, "eight threads", many_threads::ask(rt))?;
+    print(rt, "two of three gave up", giving_up::ask_thrice(rt))?;
+    print_value(rt, "ten times the key", by_type::ask_twice(rt))?;
+    print_value(rt, "three threads saw a run", judged::ask_thrice(rt))
+}
+
+/// Prints what callers are told whose functions have contracts.
+fn show_contracts<R>(rt: &R) -> Result<(), Fault>
+where
+    R: Print + Threads + Wait + RandomSource + AllocGlobal + Sync,
+{
+    print(rt, "two tasks, and one later", order::ask_late(rt))?;
+    print(rt, "polled without a token", values::ask(rt))?;
+    print(rt, "inits that fail", errors::fail_twice(rt))?;
+    print(rt, "what an owner was told and has", owner::ask_twice(rt))?;
+    print(rt, "the same of a lazy cell", lazy::ask(rt))?;
+    print(rt, "even", promised::ask(rt))?;
+    print(rt, "told once another left", leaves::ask(rt))?;
+    print(rt, "a lazy cell over another, by type", layers::ask(rt))?;
+    print(rt, "told no value", refusals::ask(rt))
+}
+
+fn run<R>(rt: &R) -> Result<(), Fault>
+where
+    R: Print + Files + Threads + Wait + RandomSource + AllocGlobal,
     R: Copy + Send + Sync + 'static,
-    O: Write,
 {
     from_rust::show(rt)?;
     examples::show(rt)?;
-    settings::show(rt, output)?;
-    connection::show(rt, output)?;
-    graph::show(rt, output)?;
-    pool::show(rt, output)?;
-    reload::show(rt, output)?;
-    owned_together::show(rt, output)?;
-    many_threads::show(rt, output)?;
-    giving_up::show(rt, output)?;
-    by_type::show(rt, output)?;
-    order::show(rt, output)?;
-    values::show(rt, output)?;
-    errors::show(rt, output)?;
-    owner::show(rt, output)?;
-    lazy::show(rt, output)?;
-    judged::show(rt, output)?;
-    promised::show(rt, output)?;
-    leaves::show(rt, output)?;
-    layers::show(rt, output)?;
-    refusals::show(rt, output)?;
-    stored::show(rt, output)
+    settings::show(rt)?;
+    show_programs(rt)?;
+    show_contracts(rt)?;
+    stored::show(rt)
 }
 
 fn main(rt: HostRuntime) -> ExitCode {
-    match run(&rt, &mut io::writer(&rt)) {
+    match run(&rt) {
         Ok(()) => ExitCode::SUCCESS,
         Err(fault) => {
             let _ = eprintln!(rt; "{fault}");

@@ -4,7 +4,6 @@ use crate::fault::Fault;
 use async_once_cell::OnceCell;
 use futures::future::ready;
 use std::alloc::{AllocError, AllocGlobal};
-use std::io::Write;
 use std::random::RandomSource;
 use std::sync::{Arc, Wait};
 use std::thread::{self, Threads};
@@ -18,7 +17,7 @@ where
 }
 
 /// What this thread and a new one are told of a cell that both own.
-fn told_to_both<R>(rt: R) -> Result<(Result<u64, Fault>, Result<u64, Fault>), AllocError>
+pub fn ask_twice<R>(rt: R) -> Result<(Result<u64, Fault>, Result<u64, Fault>), AllocError>
 where
     R: Threads + Wait + RandomSource + AllocGlobal + Copy + Send + 'static,
 {
@@ -27,22 +26,4 @@ where
     let there = thread::spawn(&rt, move || value(&rt, &theirs))?;
     let here = value(&rt, &cell);
     Ok((here, there.join(&rt)))
-}
-
-// Prints what both were told.
-fn show_told<O: Write>(
-    output: &mut O,
-    (here, there): (Result<u64, Fault>, Result<u64, Fault>),
-) -> Result<(), Fault> {
-    writeln!(output, "two owners were told {} and {}", here?, there?)?;
-    Ok(())
-}
-
-/// Has two threads that own a cell ask it, and prints what they were told.
-pub fn show<R, O>(rt: &R, output: &mut O) -> Result<(), Fault>
-where
-    R: Threads + Wait + RandomSource + AllocGlobal + Copy + Send + 'static,
-    O: Write,
-{
-    show_told(output, told_to_both(*rt)?)
 }

@@ -10,7 +10,6 @@ use futures::Future;
 use futures::task::{Context, Poll};
 use pagebook::Fits;
 use std::alloc::AllocGlobal;
-use std::io::Write;
 use std::random::RandomSource;
 use std::sync::Wait;
 use std::thread::{self, Threads};
@@ -86,21 +85,17 @@ where
     )
 }
 
-/// The value that the owner takes, once no other thread has the cell, twice: the second time from the cell that was
-/// left, which promises the same.
-fn taken_twice<R>(rt: &R, number: u64) -> Result<(Option<u64>, Option<u64>), Fault>
+/// The value that the owner takes, once no other thread has the cell.
+fn taken<R>(rt: &R, number: u64) -> Result<Option<u64>, Fault>
 where
     R: Threads + Wait + RandomSource + AllocGlobal + Sync,
     requires { number * 2 < 2 ^ 64 }
-    ensures { IfOk result (λ taken. IfSome taken.0 (λ value. (half : ℕ) × (value ≡ half * 2))
-        × IfSome taken.1 (λ value. (half : ℕ) × (value ≡ half * 2))) }
+    ensures { IfOk result (λ taken. IfSome taken (λ value. (half : ℕ) × (value ≡ half * 2))) }
 {
     let mut cell = OnceCell::<u64, IsEven>::promised(&Tag::empty());
     let (told, _) = asked_and_looked(rt, &cell, number);
     told?;
-    let first = cell.take();
-    asked(rt, &cell, number)?;
-    Ok((first, cell.take()))
+    Ok(cell.take())
 }
 
 /// The value of a lazy cell, for a caller without a token and over any future.
@@ -114,34 +109,12 @@ where
     Ok(*lazy.get(rt).wait()??)
 }
 
-/// What two threads are told. Both numbers are even.
-fn both_even<R>(rt: &R) -> Result<(u64, u64), Fault>
+/// What the owner of a cell takes, and what a lazy cell gives. Both numbers are even.
+pub fn ask<R>(rt: &R) -> Result<(Option<u64>, u64), Fault>
 where
     R: Threads + Wait + RandomSource + AllocGlobal + Sync,
-    ensures { IfOk result (λ told. ((half : ℕ) × (told.0 ≡ half * 2)) × ((half : ℕ) × (told.1 ≡ half * 2))) }
 {
+    let taken = taken(rt, 35)?;
     let lazy = Lazy::<u64, Twice, IsEven>::promised(Twice { half: 21 });
-    let (here, there) = thread::join(
-        rt,
-        ||
-            requires { is_shared lazy ≡ true }
-        { even(rt, &lazy) },
-        ||
-            requires { is_shared lazy ≡ true }
-        { even(rt, &lazy) },
-    );
-    Ok((here?, there?))
-}
-
-/// Prints what the owner takes, and what the threads are told.
-pub fn show<R, O>(rt: &R, output: &mut O) -> Result<(), Fault>
-where
-    R: Threads + Wait + RandomSource + AllocGlobal + Sync,
-    O: Write,
-{
-    let (first, second) = taken_twice(rt, 35)?;
-    writeln!(output, "as promised: {first:?} {second:?}")?;
-    let (here, there) = both_even(rt)?;
-    writeln!(output, "even: {here} {there}")?;
-    Ok(())
+    Ok((taken, even(rt, &lazy)?))
 }

@@ -16,7 +16,6 @@ use futures::future::{Ready, ready};
 use futures::task::{Context, Poll};
 use futures::test::MockTask;
 use std::alloc::AllocGlobal;
-use std::io::Write;
 use std::random::RandomSource;
 use std::sync::Wait;
 
@@ -93,15 +92,13 @@ where
     [before, told, after]
 }
 
-/// Prints what is told of a new cell, and why a poll of it is refused, if it is.
-pub fn show<R, O>(rt: &R, output: &mut O) -> Result<(), Fault>
+/// What is told of a new cell, and why a poll of another is refused, if it is.
+pub fn ask<R>(rt: &R) -> Result<([Option<u64>; 3], Option<Refused>), Fault>
 where
     R: Wait + RandomSource + AllocGlobal,
-    O: Write,
 {
     let (task, cell) = (MockTask::new(rt)?, OnceCell::new());
     let seen = task.enter(|cx| asked(rt, cx));
     let refusal = task.enter(|cx| refusal_of(&mut cell.get_or_init(rt, ready(8)), cx));
-    writeln!(output, "told no value: {seen:?} {refusal:?}")?;
-    Ok(())
+    Ok((seen, refusal))
 }

@@ -1,16 +1,15 @@
-//! Which value a poll without a token answered: the future tells it to any token of its cell, and so to the owner too.
+//! Which value a poll without a token answered: the future tells it to any token of its cell.
 //! And if by the record the poll's own init gave a value, it is one that this init may give.
 ghost use Rattle.std.specs.Prelude.{◌≡◌, IfSome, IsSomeAnd, false, true};
 ghost use Rattle.async_once_cell.specs.Record.{gave_value};
 
 use crate::fault::Fault;
-use async_once_cell::{InitFuture, Known, Lazy, LazyFuturePin, OnceCell, Told};
+use async_once_cell::{InitFuture, Known, OnceCell};
 use futures::Future;
 use futures::future::{Ready, ready};
 use futures::task::{Context, Poll};
 use futures::test::MockTask;
 use std::alloc::AllocGlobal;
-use std::io::Write;
 use std::random::RandomSource;
 use std::sync::Wait;
 
@@ -60,60 +59,6 @@ where
     future.tell(token);
     let second = cell.get_as(token).unwrap();
     Some((first, second))
-}
-
-/// The same of a lazy cell, and of the poll that an executor calls.
-fn got_after_lazy_poll<'a, F, R>(
-    future: &mut LazyFuturePin<'a, u64, F, R>,
-    lazy: &'a Lazy<u64, F>,
-    cx: &mut Context<'_>,
-    token: &mut Known<'a, u64>,
-) -> Option<(&'a u64, &'a u64)>
-where
-    F: Future<Output = u64>,
-    R: Wait + AllocGlobal,
-    requires unfinished { future.old.finished ≡ false }
-    requires future_of_this_cell { future.old.cell ≡ lazy.now }
-    requires token_of_this_cell { token.old.cell ≡ lazy.now }
-    ensures { IfSome result (λ values. values.0.now ≡ values.1.now) }
-{
-    let Poll::Ready(Ok(first)) = Future::poll(future, cx) else {
-        return None;
-    };
-    future.tell(token);
-    let second = lazy.try_get_as(token).unwrap();
-    Some((first, second))
-}
-
-/// What a poll answers, and what tells the owner so when future and token are gone.
-fn answered<R>(rt: &R, cell: &OnceCell<u64>, cx: &mut Context<'_>) -> Option<(u64, Told<u64>)>
-where
-    R: Wait + AllocGlobal,
-    ensures { IfSome result (λ answered. (answered.1.cell ≡ cell.now) × (answered.1.value ≡ answered.0)) }
-{
-    let mut future = cell.get_or_init(rt, ready(9));
-    let Poll::Ready(Ok(value)) = future.poll(cx) else {
-        return None;
-    };
-    let mut token = cell.token();
-    future.tell(&mut token);
-    let told = token.told()?;
-    Some((*value, told))
-}
-
-/// What the owner takes is what the poll answered.
-fn takes_what_was_answered<R>(
-    rt: &R,
-    cell: &mut OnceCell<u64>,
-    cx: &mut Context<'_>,
-) -> Option<(u64, u64)>
-where
-    R: Wait + AllocGlobal,
-    ensures { IfSome result (λ values. values.0 ≡ values.1) }
-{
-    let (answered, told) = answered(rt, cell, cx)?;
-    let took = cell.take_as(&told);
-    Some((answered, took))
 }
 
 /// What a poll answers whose init gives this value alone. Other futures of the cell may give others. But if the record
@@ -166,32 +111,13 @@ where
     Some([*first, *second, *third, *looked])
 }
 
-/// The same of one future of a lazy cell.
-fn lazy_without_a_token<R>(rt: &R, cx: &mut Context<'_>) -> Option<(u64, u64)>
-where
-    R: Wait + AllocGlobal,
-{
-    let lazy = Lazy::new(ready(4));
-    let mut future = lazy.get(rt);
-    let (first, looked) = got_after_lazy_poll(&mut future, &lazy, cx, &mut lazy.token())?;
-    Some((*first, *looked))
-}
-
-/// Prints what polls without a token answer, beside what looks by a token and the owner find.
-pub fn show<R, O>(rt: &R, output: &mut O) -> Result<(), Fault>
+/// What polls without a token answer, beside a look, and one whose init gives 8.
+pub fn ask<R>(rt: &R) -> Result<(Option<[u64; 4]>, Option<u64>), Fault>
 where
     R: Wait + RandomSource + AllocGlobal,
-    O: Write,
 {
-    let task = MockTask::new(rt)?;
+    let (task, cell) = (MockTask::new(rt)?, OnceCell::new());
     let asked = task.enter(|cx| asked_without_a_token(rt, cx));
-    let lazy = task.enter(|cx| lazy_without_a_token(rt, cx));
-    let mut cell = OnceCell::new();
-    let took = task.enter(|cx| takes_what_was_answered(rt, &mut cell, cx));
     let own = task.enter(|cx| answered_of_own_init(&mut cell.get_or_init(rt, Gives(8)), cx, 8));
-    writeln!(
-        output,
-        "polled without a token: {asked:?} {lazy:?} {took:?} {own:?}"
-    )?;
-    Ok(())
+    Ok((asked, own))
 }

@@ -2,34 +2,18 @@
 ghost use Rattle.std.specs.Prelude.{◌≡◌, false};
 
 use crate::fault::Fault;
-use async_once_cell::once::{InitError, InitFuture, TryInitFuture};
+use crate::print;
+use crate::slow::Slow;
+use async_once_cell::once::{InitError, TryInitFuture};
 use async_once_cell::{Lazy, OnceCell};
 use futures::Future;
-use futures::future::{Ready, ok, pending, ready};
+use futures::future::{ok, pending, ready};
 use futures::task::{Context, Poll};
 use futures::test::MockTask;
 use once_script::world::{Input, Kind, World};
 use std::alloc::{AllocError, AllocGlobal, Global};
 use std::random::RandomSource;
 use std::sync::Wait;
-
-/// Pending once, and then 9.
-#[derive(Drop)]
-struct Later {
-    is_polled: bool,
-}
-
-impl Future for Later {
-    type Output = u64;
-
-    fn poll(&mut self, cx: &mut Context<'_>) -> Poll<u64> {
-        if self.is_polled {
-            return Poll::Ready(9);
-        }
-        self.is_polled = true;
-        cx.yield_now()
-    }
-}
 
 /// A holder is dropped, and the one that waited runs its own init.
 fn dropped_holder<R>(rt: &R) -> Result<(bool, bool), Fault>
@@ -43,18 +27,7 @@ where
     let _ = task.poll(&mut waiter);
     drop(holder);
     let is_made = task.poll(&mut waiter).is_ready();
-    poll_to_its_end(&task, waiter);
     Ok((is_held, is_made))
-}
-
-/// Polls a future once more, if it is not finished.
-fn poll_to_its_end<R>(task: &MockTask, mut waiter: InitFuture<'_, u64, Ready<u64>, R>)
-where
-    R: Wait + AllocGlobal,
-{
-    if !waiter.is_finished() {
-        let _ = task.poll(&mut waiter);
-    }
 }
 
 /// What one poll gives: the value, the error of the own init, or 0.
@@ -77,7 +50,7 @@ fn handed_back<R>(rt: &R) -> Result<bool, Fault>
 where
     R: Wait + RandomSource + AllocGlobal,
 {
-    let (lazy, task) = (Lazy::new(Later { is_polled: false }), MockTask::new(rt)?);
+    let (lazy, task) = (Lazy::new(Slow::new(1, 9)), MockTask::new(rt)?);
     let mut held = lazy.get(rt);
     let is_pending = task.poll(&mut held).is_pending();
     drop(held);
@@ -113,8 +86,8 @@ pub fn show<R>(rt: &R) -> Result<(), Fault>
 where
     R: Print + Wait + RandomSource + AllocGlobal,
 {
-    let (dropped, value) = (dropped_holder(rt)?, first_polled(rt)?);
-    println!(rt; "polled: {dropped:?} {value} {}", handed_back(rt)?)?;
-    println!(rt; "replayed: {} entries", replayed(rt.alloc())?)?;
-    Ok(())
+    print(rt, "a holder was dropped", dropped_holder(rt))?;
+    print(rt, "polled once", first_polled(rt))?;
+    print(rt, "handed back", handed_back(rt))?;
+    print(rt, "entries of a replay", replayed(rt.alloc()))
 }
