@@ -1,6 +1,0 @@
--- The clauses of the call say so.
-use Rattle.std.proofs.Common.{rules}
-use Rattle.cell_callers.proofs.record.one_was_called.Goals as goal
-
-pub returns : goal.returns
-returns g c = search rules
