@@ -13,7 +13,7 @@ use Rattle.once_machine.specs.declared.step.Polled.{Polled}
 use Rattle.once_machine.specs.Steps.{MayClose, is_value, release_place, step_of_poll}
 use Rattle.once_machine.specs.Table.{Call, Load, Quick, Fast, CountIn, AddOne, CountOut, DoorGet, DoorPut, DoorTake, Section, Refuse, Run, Put}
 use Rattle.once_machine.specs.Table.{Told, Loaded, TriedQuick, TriedFast, CountedIn, Added, CountedOut, Got, PutQueue, Taken, Was, Refused, Ran, PutValue}
-use Rattle.once_machine.specs.Table.{GoesOn, Line, Looked, MayRefuse, Next, SideDid, Tells, after, after_copy, after_fast, after_list, after_run, call_at, next_at, next_rest, wants_copy}
+use Rattle.once_machine.specs.Table.{GoesOn, Line, Looked, MayRefuse, Next, SideDid, Tells, after, after_copy, after_fast, after_list, after_load, after_quick, after_run, after_start, call_at, next_at, next_rest, wants_copy}
 use Rattle.once_machine.specs.declared.step.Ending.TheVariants.{Value as EndValue}
 use Rattle.once_machine.specs.declared.step.Ending.{Ending}
 use Rattle.once_machine.specs.declared.step.Progress.TheVariants.{More}
@@ -22,7 +22,8 @@ use Rattle.once_machine.specs.declared.step.Rest.TheVariants.{Wait as RestWait}
 use Rattle.once_machine.specs.declared.step.Step.{Step}
 use Rattle.once_machine.specs.declared.step.Step.TheVariants.{UnderWay}
 use Rattle.once_machine.specs.declared.step.Place.{Place}
-use Rattle.once_machine.specs.declared.step.Place.TheVariants.{List as AtList, Look as AtLook}
+use Rattle.once_machine.specs.Word.{Flags, is_zero}
+use Rattle.once_machine.specs.declared.step.Place.TheVariants.{List as AtList, Look as AtLook, Start as AtStart, TryQuick as AtTryQuick, WaitLoad as AtWaitLoad}
 use Rattle.once_machine.specs.declared.step.Place.TheVariants.{Run as AtRun, Put as AtPut, Fast as AtFast, AddOne as AtAddOne, DoorAgain as AtDoorAgain, Release as AtRelease, CountOut as AtCountOut}
 use Rattle.async_once_cell.specs.declared.inner.task.Idle.{Idle}
 use Rattle.async_once_cell.specs.Inner.Idle.{step_of}
@@ -119,6 +120,21 @@ module _ {W : Type 0} (whose : W → ℕ) where
         led_by x y v w at n (nothing_shown at y plain) is (lone x y v w at n.progress n.step plain
         (told_more (call_at at) (λ d. d ≡ e) (λ d. Tell v d w × GoesOn Tell (sided_tells whose (λ (z : Sided). z)) (after None at d) d x y n.progress n.step)
         (λ d same. subst (λ d. Tell v d w × GoesOn Tell (sided_tells whose (λ (z : Sided). z)) (after None at d) d x y n.progress n.step) (sym same) ((refl, did), goes)) tells))
+
+    -- the first load, by what the word says
+    pub started : (word : Flags) (n : Next W ⊤) → Stands whose false x v More (UnderWay AtStart) → DidCall whose v (Loaded word) w
+        → after_start word.ready (is_zero word) ≡ n → y ≡ closed_if n.closes x → Leads whose x v n.progress n.step y w
+    started word n is did leads closed = led AtStart (Loaded word) n refl refl (_, refl) is did leads closed
+
+    -- a load of a task that waited, by whether the cell is set
+    pub loaded : (k : Option ℕ) (word : Flags) (n : Next W ⊤) → Stands whose false x v More (UnderWay (AtWaitLoad tt k)) → DidCall whose v (Loaded word) w
+        → after_load word.ready tt k ≡ n → y ≡ closed_if n.closes x → Leads whose x v n.progress n.step y w
+    loaded k word n is did leads closed = led (AtWaitLoad tt k) (Loaded word) n refl refl (_, refl) is did leads closed
+
+    -- the quick claim, by whether it was won
+    pub claimed : (won : Bool) (n : Next W ⊤) → Stands whose false x v More (UnderWay AtTryQuick) → DidCall whose v (TriedQuick won) w
+        → after_quick won ≡ n → y ≡ closed_if n.closes x → Leads whose x v n.progress n.step y w
+    claimed won n is did leads closed = led AtTryQuick (TriedQuick won) n refl refl (_, refl) is did leads closed
 
     -- a holder that met others counts itself in
     pub added : (e : Ending) → Stands whose false x v More (UnderWay (AtAddOne e)) → DidCall whose v Added w → y ≡ x → Leads whose x v More (UnderWay (AtDoorAgain e)) y w

@@ -2,10 +2,10 @@
 -- at the place to which the word leads.
 use Rattle.std.proofs.Common.{◌≡◌, true, false, refl, sym, ap, ◌∙◌}
 use Rattle.once_machine.specs.Word.{Flags, flags_of, is_zero}
-use Rattle.once_machine.specs.Table.{Loaded, after_start, closing_end, next_at}
-use Rattle.once_machine.specs.declared.step.Place.TheVariants.{DoorGet as AtDoorGet, Start as AtStart, TryQuick as AtTryQuick}
+use Rattle.once_machine.specs.Table.{after_start, closing_end, next_at}
+use Rattle.once_machine.specs.declared.step.Place.TheVariants.{DoorGet as AtDoorGet, TryQuick as AtTryQuick}
 use Rattle.once_machine.specs.declared.step.Ending.TheVariants.{Value as EndValue}
-use Rattle.async_once_cell.proofs.Walk.Ways.{led, onward}
+use Rattle.async_once_cell.proofs.Walk.Ways.{onward, started}
 use Rattle.async_once_cell.proofs.inner.shared.Shared.at_start.Goals as goal
 
 pub returns-then-is_ready : goal.returns-then-is_ready
@@ -14,8 +14,8 @@ returns-then-is_ready g c =
     let ready : word.ready ≡ true = ap (λ (w : Flags). w.ready) (sym c.from_bits-word.ensures) ∙ sym c.is_ready.ensures ∙ c.if-is_ready.true in
     record {
       cell = c.load.ensures.0;
-      leads = led g.W.TaskWaker.whose AtStart (Loaded word) (closing_end EndValue) refl refl (_, refl) c.requires.stands c.load.ensures.1
-          (ap (λ b. after_start b (is_zero word)) ready) (g.met.S.TaskSide.tells.close _ _ c.close.ensures.did);
+      leads = started g.W.TaskWaker.whose word (closing_end EndValue) c.requires.stands c.load.ensures.1 (ap (λ b. after_start b (is_zero word)) ready)
+          (g.met.S.TaskSide.tells.close _ _ c.close.ensures.did);
       stays = c.close.ensures.stays;
     }
 
@@ -27,7 +27,7 @@ returns-then-not-is_new g c =
     record {
       cell = c.at_door_get.ensures.cell ∙ c.load.ensures.0;
       leads = onward g.W.TaskWaker.whose
-          (led g.W.TaskWaker.whose AtStart (Loaded word) (next_at AtDoorGet) refl refl (_, refl) c.requires.stands c.load.ensures.1
+          (started g.W.TaskWaker.whose word (next_at AtDoorGet) c.requires.stands c.load.ensures.1
           (ap (λ b. after_start b (is_zero word)) unset ∙ ap (after_start false) met) refl)
           c.at_door_get.ensures.leads;
       stays = c.at_door_get.ensures.stays;
@@ -41,7 +41,7 @@ returns g c =
     record {
       cell = c.at_try_quick.ensures.cell ∙ c.load.ensures.0;
       leads = onward g.W.TaskWaker.whose
-          (led g.W.TaskWaker.whose AtStart (Loaded word) (next_at AtTryQuick) refl refl (_, refl) c.requires.stands c.load.ensures.1
+          (started g.W.TaskWaker.whose word (next_at AtTryQuick) c.requires.stands c.load.ensures.1
           (ap (λ b. after_start b (is_zero word)) unset ∙ ap (after_start false) alone) refl)
           c.at_try_quick.ensures.leads;
       stays = c.at_try_quick.ensures.stays;

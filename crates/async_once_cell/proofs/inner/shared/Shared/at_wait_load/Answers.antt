@@ -1,10 +1,10 @@
 -- The load is its line of the table. If the word is ready, the init is closed, and the task counts out. Else it looks.
 use Rattle.std.proofs.Common.{◌≡◌, true, false, refl, sym, ap, ◌∙◌}
 use Rattle.once_machine.specs.Word.{Flags, flags_of}
-use Rattle.once_machine.specs.Table.{Loaded, after_load, closing_at, next_at}
-use Rattle.once_machine.specs.declared.step.Place.TheVariants.{CountOut as AtCountOut, Look as AtLook, WaitLoad as AtWaitLoad}
+use Rattle.once_machine.specs.Table.{after_load, closing_at, next_at}
+use Rattle.once_machine.specs.declared.step.Place.TheVariants.{CountOut as AtCountOut, Look as AtLook}
 use Rattle.once_machine.specs.declared.step.Ending.TheVariants.{Value as EndValue}
-use Rattle.async_once_cell.proofs.Walk.Ways.{led, onward}
+use Rattle.async_once_cell.proofs.Walk.Ways.{loaded, onward}
 use Rattle.async_once_cell.proofs.inner.shared.Shared.at_wait_load.Goals as goal
 
 pub returns-then-is_ready : goal.returns-then-is_ready
@@ -14,7 +14,7 @@ returns-then-is_ready g c =
     record {
       cell = c.at_count_out.ensures.cell ∙ c.load.ensures.0;
       leads = onward g.W.TaskWaker.whose
-          (led g.W.TaskWaker.whose (AtWaitLoad tt c.args.ticket) (Loaded word) (closing_at (AtCountOut EndValue)) refl refl (_, refl) c.requires.stands c.load.ensures.1
+          (loaded g.W.TaskWaker.whose c.args.ticket word (closing_at (AtCountOut EndValue)) c.requires.stands c.load.ensures.1
           (ap (λ b. after_load b tt c.args.ticket) ready) (g.met.S.TaskSide.tells.close _ _ c.close.ensures.did))
           c.at_count_out.ensures.leads;
       stays = c.close.ensures.stays;
@@ -27,7 +27,7 @@ returns g c =
     record {
       cell = c.at_look.ensures.cell ∙ c.load.ensures.0;
       leads = onward g.W.TaskWaker.whose
-          (led g.W.TaskWaker.whose (AtWaitLoad tt c.args.ticket) (Loaded word) (next_at (AtLook tt c.args.ticket)) refl refl (_, refl) c.requires.stands c.load.ensures.1
+          (loaded g.W.TaskWaker.whose c.args.ticket word (next_at (AtLook tt c.args.ticket)) c.requires.stands c.load.ensures.1
           (ap (λ b. after_load b tt c.args.ticket) unset) refl)
           c.at_look.ensures.leads;
       stays = c.at_look.ensures.stays;
