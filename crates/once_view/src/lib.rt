@@ -11,6 +11,7 @@ pub mod program;
 pub mod range;
 pub mod reading;
 pub mod table;
+mod text;
 pub mod verdict;
 
 use crate::fault::Fault;

@@ -55,20 +55,9 @@ impl Listed {
         &self.listings
     }
 
-    /// The tasks that an entry wakes, before it is taken. Of those with the same waker the one listed first is woken.
-    pub fn called_by(&self, alloc: Global, entry: &Entry) -> Result<Vec<u64>, AllocError> {
-        let mut called = Vec::new(alloc);
-        let mut wakers = wakers_of(entry);
-        for listing in self.uncalled.iter().filter_map(|it| self.listings.get(it)) {
-            let Some((waker, later)) = wakers.split_first() else {
-                break;
-            };
-            if listing.waker == Some(*waker) {
-                called.push(listing.task)?;
-                wakers = later;
-            }
-        }
-        Ok(called)
+    /// The places of those that were not woken.
+    pub fn uncalled(&self) -> &BTreeSet<u64> {
+        &self.uncalled
     }
 
     /// Takes an entry that a line adds.
@@ -197,13 +186,5 @@ impl Listed {
                 listing.waker = None;
             }
         }
-    }
-}
-
-/// The wakers that an entry hands out.
-fn wakers_of(entry: &Entry) -> &[u64] {
-    match entry {
-        Entry::Free(_, wakers) | Entry::Pass(_, wakers) | Entry::Fill(_, _, wakers) => wakers,
-        _ => &[],
     }
 }

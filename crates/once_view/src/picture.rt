@@ -3,6 +3,7 @@ use crate::listed::Listed;
 use crate::play::{Moment, Watcher, play};
 use crate::range::LineRange;
 use crate::reading::{Script, TextLine};
+use crate::text::Text;
 use once_script::print::call_word;
 use once_script::world::{Call, Entry, Kind, Ran, Reply};
 use std::alloc::{AllocError, Global};
@@ -17,8 +18,7 @@ mod svg;
 
 use draw::Drawing;
 use lanes::Lanes;
-use shape::{CellState, Shape};
-use svg::Svg;
+use shape::{CellState, Shape, Shapes};
 
 /// How many ticks a column has. The entries that a line adds stand at one tick after the other.
 const TICKS: u64 = 8;
@@ -102,7 +102,7 @@ struct Picture {
     cell: CellState,
     /// When the cell came to its state.
     cell_from: u64,
-    shapes: Vec<Shape>,
+    shapes: Shapes,
 }
 
 impl Watcher for Picture {
@@ -130,7 +130,7 @@ impl Picture {
             lanes: Lanes::new(alloc),
             cell: first_state(kind),
             cell_from: 0,
-            shapes: Vec::new(alloc),
+            shapes: Shapes::new(alloc),
         }
     }
 
@@ -167,8 +167,8 @@ impl Picture {
         columns: &[TextLine<'_>],
         output: &mut O,
     ) -> io::Result<()> {
-        let mut svg = Svg::new(self.alloc);
-        Drawing::new(title, columns, &self.lanes).draw(&self.shapes, &mut svg);
+        let mut svg = Text::new(self.alloc);
+        Drawing::new(title, columns, &self.lanes).draw(self.shapes.as_slice(), &mut svg);
         svg.write(output)
     }
 
@@ -223,104 +223,100 @@ impl Picture {
 
     fn add(&mut self, at: u64, entry: &Entry) -> Result<(), AllocError> {
         match entry {
-            Entry::Made(task) => self.lanes.add(*task, at),
+            Entry::Made(task) => return self.lanes.add(*task, at),
             Entry::Begin(task, _) => self.begin(*task, at, false),
             Entry::DropBegin(task) => self.begin(*task, at, true),
             Entry::Claim(task) => self.claim(*task, at),
             Entry::Ran(task, answer) => self.ran(*task, at, *answer),
-            Entry::Free(task, _) => self.release(*task, at, CellState::Empty, entry),
-            Entry::Fill(task, value, _) => {
-                self.release(*task, at, CellState::Set(*value), entry)
+            Entry::Free(task, wakers) => self.release(*task, at, CellState::Empty, wakers),
+            Entry::Fill(task, value, wakers) => {
+                self.release(*task, at, CellState::Set(*value), wakers);
             }
-            Entry::Pass(task, _) => self.wake(*task, at, entry),
+            Entry::Pass(task, wakers) => self.wake(*task, at, wakers),
             Entry::End(task, reply) => self.end(*task, at, *reply),
             Entry::DropEnd(task) => self.end_drop(*task, at),
-            Entry::Look(value) => self.push(Shape::Look { at, value: *value }),
+            Entry::Look(value) => self.shapes.add(Shape::Look { at, value: *value }),
             Entry::Own(call, _) => self.own(at, call),
         }
-    }
-
-    fn push(&mut self, shape: Shape) -> Result<(), AllocError> {
-        self.shapes.push(shape)?;
         Ok(())
     }
 
     /// The cell comes to another state.
-    fn change(&mut self, at: u64, state: CellState) -> Result<(), AllocError> {
-        self.push(Shape::Cell {
+    fn change(&mut self, at: u64, state: CellState) {
+        self.shapes.add(Shape::Cell {
             from: self.cell_from,
             to: at,
             state: self.cell,
-        })?;
+        });
         self.cell = state;
         self.cell_from = at;
-        Ok(())
     }
 
-    fn begin(&mut self, task: u64, at: u64, is_drop: bool) -> Result<(), AllocError> {
-        match self.lanes.begin(task, at, is_drop) {
-            Some(waited) => self.push(Shape::Wait(waited)),
-            None => Ok(()),
+    fn begin(&mut self, task: u64, at: u64, is_drop: bool) {
+        if let Some(waited) = self.lanes.begin(task, at, is_drop) {
+            self.shapes.add(Shape::Wait(waited));
         }
     }
 
-    fn claim(&mut self, task: u64, at: u64) -> Result<(), AllocError> {
+    fn claim(&mut self, task: u64, at: u64) {
         self.lanes.hold(task, at);
-        self.change(at, CellState::Held(task))
+        self.change(at, CellState::Held(task));
     }
 
-    fn ran(&mut self, task: u64, at: u64, answer: Ran) -> Result<(), AllocError> {
+    fn ran(&mut self, task: u64, at: u64, answer: Ran) {
         let lane = self.lanes.number_of(task);
-        self.push(Shape::InitPoll { lane, at, answer })
+        self.shapes.add(Shape::InitPoll { lane, at, answer });
     }
 
-    /// The task gives the right back, and wakes whom the entry says.
-    fn release(
-        &mut self,
-        task: u64,
-        at: u64,
-        state: CellState,
-        entry: &Entry,
-    ) -> Result<(), AllocError> {
+    /// The task gives the right back, and wakes those with these wakers.
+    fn release(&mut self, task: u64, at: u64, state: CellState, wakers: &[u64]) {
         if let Some(held) = self.lanes.release(task, at) {
-            self.push(Shape::Hold(held))?;
+            self.shapes.add(Shape::Hold(held));
         }
-        self.change(at, state)?;
-        self.wake(task, at, entry)
+        self.change(at, state);
+        self.wake(task, at, wakers);
     }
 
-    /// An arrow to each task that the entry wakes.
-    fn wake(&mut self, task: u64, at: u64, entry: &Entry) -> Result<(), AllocError> {
+    /// An arrow to each task that is woken with one of these wakers, before its entry is taken. Of those with the same
+    /// waker the one listed first is woken.
+    fn wake(&mut self, task: u64, at: u64, wakers: &[u64]) {
         let caller = self.lanes.number_of(task);
-        for task in &self.listed.called_by(self.alloc, entry)? {
-            let called = self.lanes.number_of(*task);
-            self.push(Shape::Wake { at, caller, called })?;
+        let mut wakers = wakers;
+        for place in self.listed.uncalled() {
+            let Some((waker, later)) = wakers.split_first() else {
+                return;
+            };
+            if let Some(listing) = self.listed.listings().get(place)
+                && listing.waker == Some(*waker)
+            {
+                let called = self.lanes.number_of(listing.task);
+                self.shapes.add(Shape::Wake { at, caller, called });
+                wakers = later;
+            }
         }
-        Ok(())
     }
 
-    fn end(&mut self, task: u64, at: u64, reply: Reply) -> Result<(), AllocError> {
+    fn end(&mut self, task: u64, at: u64, reply: Reply) {
         let lane = self.lanes.number_of(task);
         if let Some(call) = self.lanes.end(task, at) {
-            self.push(Shape::TaskPoll(call))?;
+            self.shapes.add(Shape::TaskPoll(call));
         }
         if matches!(&reply, Reply::Pending) {
             self.lanes.wait(task, at);
-            return Ok(());
+        } else {
+            self.lanes.leave(task, at);
+            self.shapes.add(Shape::Reply { lane, at, reply });
         }
-        self.lanes.leave(task, at);
-        self.push(Shape::Reply { lane, at, reply })
     }
 
-    fn end_drop(&mut self, task: u64, at: u64) -> Result<(), AllocError> {
+    fn end_drop(&mut self, task: u64, at: u64) {
         if let Some(call) = self.lanes.end(task, at) {
-            self.push(Shape::TaskDrop(call))?;
+            self.shapes.add(Shape::TaskDrop(call));
         }
         self.lanes.leave(task, at);
-        Ok(())
     }
 
-    fn own(&mut self, at: u64, call: &Call) -> Result<(), AllocError> {
+    fn own(&mut self, at: u64, call: &Call) {
         let state = match call {
             Call::Take | Call::Parts | Call::ReplaceAnswers(_) => CellState::Empty,
             Call::ReplaceValue(value) => CellState::Set(*value),
@@ -329,20 +325,18 @@ impl Picture {
                 other => other,
             },
         };
-        self.push(Shape::Owner {
-            at,
-            word: call_word(call),
-        })?;
-        self.change(at, state)
+        let word = call_word(call);
+        self.shapes.add(Shape::Owner { at, word });
+        self.change(at, state);
     }
 
-    /// Ends all that is still open with the last column.
+    /// Ends all that is still open with the last column, and sees that no shape is lacking.
     fn close(&mut self) -> Result<(), AllocError> {
         let at = self.columns.saturating_mul(TICKS);
-        self.change(at, self.cell)?;
+        self.change(at, self.cell);
         for lane in self.lanes.as_slice() {
-            lane.add_open(at, &mut self.shapes)?;
+            lane.add_open(at, &mut self.shapes);
         }
-        Ok(())
+        self.shapes.check()
     }
 }

@@ -3,8 +3,9 @@ use super::TICKS;
 use super::lanes::{Lane, Lanes};
 use super::legend::draw_legend;
 use super::shape::{CellState, LAYERS, Shape, Span};
-use super::svg::{Label, Svg};
+use super::svg::{Label, draw_box};
 use crate::reading::TextLine;
+use crate::text::Text;
 use once_script::world::{Ran, Reply};
 
 /// The left margin, if the names of the tasks need no more.
@@ -111,7 +112,7 @@ impl<'a> Drawing<'a> {
     }
 
     /// Draws the whole picture.
-    pub fn draw(&self, shapes: &[Shape], svg: &mut Svg) {
+    pub fn draw(&self, shapes: &[Shape], svg: &mut Text) {
         self.draw_head(svg);
         self.draw_axis(svg);
         self.draw_words_of_lines(svg);
@@ -169,7 +170,7 @@ impl<'a> Drawing<'a> {
         self.right().saturating_add(30).max(LEAST_WIDTH)
     }
 
-    fn draw_head(&self, svg: &mut Svg) {
+    fn draw_head(&self, svg: &mut Text) {
         let (width, height) = (self.width(), self.foot().saturating_add(106));
         svg.fill(HEAD, &[width, height, width, height]);
         svg.add(STYLE);
@@ -183,10 +184,10 @@ impl<'a> Drawing<'a> {
     }
 
     /// The number of each column's line, or of each tenth.
-    fn draw_axis(&self, svg: &mut Svg) {
+    fn draw_axis(&self, svg: &mut Text) {
         let (top, bottom) = (LANES, self.bottom());
         let words = bottom.saturating_add(14);
-        svg.add_label(8, words, Label::of("line"));
+        Label::of("line").draw(8, words, svg);
         for (column, line) in self.lines.iter().enumerate() {
             if self.has_words() || column % 10 == 0 {
                 let x = self.x((column as u64).saturating_mul(TICKS));
@@ -197,12 +198,12 @@ impl<'a> Drawing<'a> {
 
     /// What each line says, below its number. The words run downwards, since most lines are wider than a column. If
     /// there are many columns, they are narrower than a line of text is high, so the words are left out.
-    fn draw_words_of_lines(&self, svg: &mut Svg) {
+    fn draw_words_of_lines(&self, svg: &mut Text) {
         if !self.has_words() {
             return;
         }
         let y = self.bottom().saturating_add(20);
-        svg.add_label(8, y.saturating_add(10), Label::of("script"));
+        Label::of("script").draw(8, y.saturating_add(10), svg);
         for (column, line) in self.lines.iter().enumerate() {
             let x = self
                 .x((column as u64).saturating_mul(TICKS))
@@ -213,7 +214,7 @@ impl<'a> Drawing<'a> {
     }
 
     /// The name of each task, and a line from its making to its end.
-    fn draw_lanes(&self, svg: &mut Svg) {
+    fn draw_lanes(&self, svg: &mut Text) {
         let end = self.end();
         for (place, lane) in self.lanes.iter().enumerate() {
             let place = place as u64;
@@ -221,12 +222,12 @@ impl<'a> Drawing<'a> {
             let y = self.y(place, 3);
             svg.fill("<path class='life' d='M{} {}H{}'/>\n", &[from, y, to]);
             if self.unit > 1 || place % 2 == 0 {
-                svg.add_label(8, y.saturating_add(4), Label::with("task ", lane.task));
+                Label::with("task ", lane.task).draw(8, y.saturating_add(4), svg);
             }
         }
     }
 
-    fn draw_shape(&self, shape: &Shape, svg: &mut Svg) {
+    fn draw_shape(&self, shape: &Shape, svg: &mut Text) {
         match shape {
             Shape::Wait(span) => self.draw_span("wait", *span, (2, 2), svg),
             Shape::TaskPoll(span) => self.draw_span("poll", *span, (1, 4), svg),
@@ -242,13 +243,13 @@ impl<'a> Drawing<'a> {
     }
 
     /// A bar, so many units below the top of its lane, and so many high.
-    fn draw_span(&self, class: &str, span: Span, (top, high): (u64, u64), svg: &mut Svg) {
+    fn draw_span(&self, class: &str, span: Span, (top, high): (u64, u64), svg: &mut Text) {
         let (x, y) = (self.x(span.from), self.y(span.lane, top));
         let width = self.x(span.to).saturating_sub(x).max(2);
-        svg.add_box(class, (x, y), (width, high.saturating_mul(self.unit)));
+        draw_box(class, (x, y), (width, high.saturating_mul(self.unit)), svg);
     }
 
-    fn draw_poll(&self, lane: u64, at: u64, answer: Ran, svg: &mut Svg) {
+    fn draw_poll(&self, lane: u64, at: u64, answer: Ran, svg: &mut Text) {
         let (x, y) = (self.x(at), self.y(lane, 3));
         let radius = self.unit.max(2);
         match answer {
@@ -257,12 +258,12 @@ impl<'a> Drawing<'a> {
             Ran::Error(_) => {
                 let corner = (x.saturating_sub(radius), y.saturating_sub(radius));
                 let side = radius.saturating_mul(2);
-                svg.add_box("error", corner, (side, side));
+                draw_box("error", corner, (side, side), svg);
             }
         }
     }
 
-    fn draw_reply(&self, lane: u64, at: u64, reply: Reply, svg: &mut Svg) {
+    fn draw_reply(&self, lane: u64, at: u64, reply: Reply, svg: &mut Text) {
         if !self.has_words() || self.unit < 4 {
             return;
         }
@@ -275,12 +276,12 @@ impl<'a> Drawing<'a> {
             Reply::Full => Label::of("full"),
         };
         if x.saturating_add(room_of(label.len())) <= self.width() {
-            svg.add_label(x, y, label);
+            label.draw(x, y, svg);
         }
     }
 
     /// An arrow from one lane to another.
-    fn draw_wake(&self, at: u64, caller: u64, called: u64, svg: &mut Svg) {
+    fn draw_wake(&self, at: u64, caller: u64, called: u64, svg: &mut Text) {
         let (x, start) = (self.x(at), self.y(caller, 6));
         let (left, right) = (x.saturating_sub(3), x.saturating_add(3));
         let is_down = called > caller;
@@ -293,7 +294,7 @@ impl<'a> Drawing<'a> {
         svg.fill(ARROW, &[x, start, tip, left, back, right, x, tip]);
     }
 
-    fn draw_cell(&self, from: u64, to: u64, state: CellState, svg: &mut Svg) {
+    fn draw_cell(&self, from: u64, to: u64, state: CellState, svg: &mut Text) {
         let x = self.x(from);
         let width = self.x(to).saturating_sub(x);
         if width == 0 {
@@ -304,7 +305,7 @@ impl<'a> Drawing<'a> {
             CellState::Held(_) => "held",
             CellState::Set(_) => "set",
         };
-        svg.add_box(class, (x, BAND), (width, BAND_HEIGHT));
+        draw_box(class, (x, BAND), (width, BAND_HEIGHT), svg);
         let label = state.label();
         if room_of(label.len()) > width {
             return;
@@ -315,19 +316,19 @@ impl<'a> Drawing<'a> {
                 let light = "<text class='light' x='{}' y='{}'>set: v{}</text>\n";
                 svg.fill(light, &[x, y, value]);
             }
-            CellState::Empty | CellState::Held(_) => svg.add_label(x, y, label),
+            CellState::Empty | CellState::Held(_) => label.draw(x, y, svg),
         }
     }
 
     /// A mark whose tip touches the band of the cell.
-    fn draw_mark(&self, at: u64, tip: u64, back: u64, svg: &mut Svg) {
+    fn draw_mark(&self, at: u64, tip: u64, back: u64, svg: &mut Text) {
         let x = self.x(at);
         let (left, right) = (x.saturating_sub(4), x.saturating_add(4));
         svg.fill(MARK, &[x, tip, left, back, right]);
     }
 
     /// Above the band: the owner's calls, and the holders whose names have no room in the band.
-    fn draw_words_above(&self, shapes: &[Shape], svg: &mut Svg) {
+    fn draw_words_above(&self, shapes: &[Shape], svg: &mut Text) {
         let (y, mut free) = (BAND - 4, 0u64);
         for shape in shapes {
             match shape {
@@ -347,7 +348,7 @@ impl<'a> Drawing<'a> {
     }
 
     /// What looks found, below the band.
-    fn draw_look_words(&self, shapes: &[Shape], svg: &mut Svg) {
+    fn draw_look_words(&self, shapes: &[Shape], svg: &mut Text) {
         let mut free = 0u64;
         for shape in shapes {
             if let Shape::Look { at, value } = shape {
@@ -362,17 +363,17 @@ impl<'a> Drawing<'a> {
     }
 
     /// Draws a word into a row, which is free from `free` on, if there is room. Answers from where on it is free then.
-    fn draw_word(&self, (x, y): (u64, u64), word: Label, free: u64, svg: &mut Svg) -> u64 {
+    fn draw_word(&self, (x, y): (u64, u64), word: Label, free: u64, svg: &mut Text) -> u64 {
         let end = x.saturating_add(room_of(word.len()));
         if !self.has_words() || x < free || end > self.width() {
             return free;
         }
-        svg.add_label(x, y, word);
+        word.draw(x, y, svg);
         end
     }
 
     /// Says what a large picture leaves out.
-    fn draw_left_out(&self, svg: &mut Svg) {
+    fn draw_left_out(&self, svg: &mut Text) {
         let y = self.foot().saturating_add(96);
         let text = match (self.has_words(), self.unit) {
             (true, 4) => return,
@@ -386,7 +387,7 @@ impl<'a> Drawing<'a> {
                 "Left out, since there are many lines: what lines say, polls answer, looks find and the owner calls, \
                 the names of short holds, and nine of ten numbers of lines.",
         };
-        svg.add_label(8, y, Label::of(text));
+        Label::of(text).draw(8, y, svg);
     }
 }
 
@@ -410,7 +411,7 @@ impl Beginning<'_> {
     }
 
     /// Draws it as the words of a text, and ends that.
-    fn draw(self, svg: &mut Svg) {
+    fn draw(self, svg: &mut Text) {
         match self.0.get(..self.1) {
             Some(begin) if begin.len() < self.0.len() => {
                 svg.add(begin);

@@ -1,5 +1,5 @@
 //! The lanes of the tasks, and what is open in each.
-use super::shape::{Shape, Span};
+use super::shape::{Shape, Shapes, Span};
 use std::alloc::{AllocError, Global};
 use std::collections::BTreeMap;
 
@@ -28,9 +28,9 @@ impl Lane {
     }
 
     /// Adds what is still open, as it is drawn if it lasts until this time.
-    pub fn add_open(&self, at: u64, shapes: &mut Vec<Shape>) -> Result<(), AllocError> {
+    pub fn add_open(&self, at: u64, shapes: &mut Shapes) {
         if let Some(from) = self.waits {
-            shapes.push(Shape::Wait(self.span(from, at)))?;
+            shapes.add(Shape::Wait(self.span(from, at)));
         }
         if let Some(from) = self.call {
             let span = self.span(from, at);
@@ -39,12 +39,11 @@ impl Lane {
             } else {
                 Shape::TaskPoll(span)
             };
-            shapes.push(call)?;
+            shapes.add(call);
         }
         if let Some(from) = self.holds {
-            shapes.push(Shape::Hold(self.span(from, at)))?;
+            shapes.add(Shape::Hold(self.span(from, at)));
         }
-        Ok(())
     }
 }
 

@@ -1,5 +1,5 @@
 //! What the shapes of a picture mean.
-use super::svg::Svg;
+use crate::text::Text;
 
 /// The legend, as it stands at the top left. Bars are as high and as low in their row as in a lane.
 const LEGEND: &str = "<rect class='poll' x='8' y='2' width='24' height='16'/>
@@ -32,7 +32,7 @@ const LEGEND: &str = "<rect class='poll' x='8' y='2' width='24' height='16'/>
 Each line of the script stands below its number. A word without room is left out.</text>";
 
 /// Draws the legend, below this height.
-pub fn draw_legend(top: u64, svg: &mut Svg) {
+pub fn draw_legend(top: u64, svg: &mut Text) {
     svg.fill("<g transform='translate(0 {})'>\n", &[top]);
     svg.add(LEGEND);
     svg.add("</g>\n");

@@ -1,6 +1,7 @@
 //! What a picture is made of. A time is a number of ticks, and a lane its number from the top.
 use super::svg::Label;
 use once_script::world::{Ran, Reply};
+use std::alloc::{AllocError, Global};
 
 /// What the cell is.
 #[derive(Clone, Copy)]
@@ -92,3 +93,42 @@ impl Shape {
 
 /// How many layers there are.
 pub const LAYERS: u64 = 5;
+
+/// The shapes of a picture, which come one after the other. It remembers if memory was refused for one.
+#[derive(Drop)]
+pub struct Shapes {
+    shapes: Vec<Shape>,
+    is_refused: bool,
+}
+
+impl Shapes {
+    pub fn new(alloc: Global) -> Self {
+        Shapes {
+            shapes: Vec::new(alloc),
+            is_refused: false,
+        }
+    }
+
+    pub fn add(&mut self, shape: Shape) {
+        if self.shapes.push(shape).is_err() {
+            self.is_refused = true;
+        }
+    }
+
+    /// Lets go of the shapes so far.
+    pub fn clear(&mut self) {
+        self.shapes.clear();
+    }
+
+    pub fn as_slice(&self) -> &[Shape] {
+        &self.shapes
+    }
+
+    /// Sees that no shape is lacking.
+    pub fn check(&self) -> Result<(), AllocError> {
+        if self.is_refused {
+            return Err(AllocError);
+        }
+        Ok(())
+    }
+}
