@@ -3,6 +3,7 @@ use crate::listed::Listed;
 use crate::play::{Moment, Watcher, play};
 use crate::range::LineRange;
 use crate::reading::Script;
+use crate::text::Text;
 use once_script::world::Entry;
 use std::alloc::{AllocError, Global};
 use std::collections::BTreeMap;
@@ -14,7 +15,7 @@ mod others;
 mod part;
 mod writing;
 
-use cells::{CoreCells, Entries, Stand, listed_cell};
+use cells::{Stand, add_core, add_entries, listed_cell};
 use part::{Row, Task, Writing};
 
 /// Plays a script, and writes a table of these lines.
@@ -38,7 +39,9 @@ pub fn write_table<O: Write>(
     };
     play(alloc, script, &mut table)?;
     let Table { tasks, rows, .. } = table;
-    Writing::new(alloc, tasks).write(&rows, output)
+    let mut text = Text::new(alloc);
+    Writing::new(alloc, tasks).show(&rows, &mut text)?;
+    text.write(output)
 }
 
 /// The rows of a table, and the tasks that live in them.
@@ -113,16 +116,37 @@ impl Table {
     }
 
     fn row(&self, moment: Moment<'_>) -> Result<Row, AllocError> {
-        let (number, text) = (moment.source.number, moment.source.text);
-        let (core, listed) = (CoreCells(moment.world.core()), &self.listed_cell);
         Ok(Row {
-            shared: format!(in self.alloc; "{number}\t{text}\t{core}\t{listed}")?,
+            shared: self.shared_cells(moment)?,
             named: self.named(moment),
-            record: match moment.reason {
-                Some(reason) => format!(in self.alloc; "(passed over: {reason})")?,
-                None => format!(in self.alloc; "{}", Entries(moment.added))?,
-            },
+            record: self.record_cell(moment)?,
         })
+    }
+
+    /// The cells before those of the tasks.
+    fn shared_cells(&self, moment: Moment<'_>) -> Result<String, AllocError> {
+        let mut cells = Text::new(self.alloc);
+        cells.fill("{}\t", &[moment.source.number]);
+        cells.add(moment.source.text);
+        cells.add("\t");
+        add_core(moment.world.core(), &mut cells);
+        cells.add("\t");
+        cells.add(&self.listed_cell);
+        cells.into_string()
+    }
+
+    /// The cell after those of the tasks.
+    fn record_cell(&self, moment: Moment<'_>) -> Result<String, AllocError> {
+        let mut cell = Text::new(self.alloc);
+        match moment.reason {
+            Some(reason) => {
+                cell.add("(passed over: ");
+                cell.show(&reason);
+                cell.add(")");
+            }
+            None => add_entries(moment.added, &mut cell),
+        }
+        cell.into_string()
     }
 
     /// The place of the task that the line names, and where it stands, unless it was gone before the line.

@@ -1,74 +1,53 @@
 //! The cells of a row.
 use crate::listed::Listed;
+use crate::text::Text;
 use once_machine::step::{Place, Rest, Step};
 use once_script::plain::Core;
 use once_script::print::EntryLine;
 use once_script::world::Entry;
 use std::alloc::{AllocError, Global};
-use std::fmt;
 
 /// How many listings a cell shows at most.
 const MOST_LISTINGS: usize = 20;
 
-/// The cells of a row that say what all tasks share, except for the list.
-#[derive(Clone, Copy)]
-pub struct CoreCells<'a>(pub &'a Core<u64>);
-
-impl fmt::Display for CoreCells<'_> {
-    fn fmt<W: fmt::Write>(&self, f: &mut fmt::Formatter<W>) -> fmt::Result {
-        let word = &self.0.word;
-        let (quick, ready) = (
-            Mark(word.is_quick(), "quick"),
-            Mark(word.is_ready(), "ready"),
-        );
-        let (door, flag) = (Door(self.0.door), Mark(self.0.lists.head, "held"));
-        write!(f, "{}\t{quick}\t{ready}\t{door}\t{flag}", word.count())
+/// Adds the cells of a row that say what all tasks share, except for the list.
+pub fn add_core(core: &Core<u64>, row: &mut Text) {
+    let word = &core.word;
+    row.show(&word.count());
+    add_mark(word.is_quick(), "\tquick", row);
+    add_mark(word.is_ready(), "\tready", row);
+    match core.door {
+        Some(queue) => row.fill("\tqueue {}", &[queue]),
+        None => row.add("\t-"),
     }
+    add_mark(core.lists.head, "\theld", row);
 }
 
-/// A flag, which is shown by its word if it is set.
-#[derive(Clone, Copy)]
-struct Mark(bool, &'static str);
-
-impl fmt::Display for Mark {
-    fn fmt<W: fmt::Write>(&self, f: &mut fmt::Formatter<W>) -> fmt::Result {
-        f.write_str(if self.0 { self.1 } else { "-" })
-    }
-}
-
-/// The queue at the door.
-#[derive(Clone, Copy)]
-struct Door(Option<u64>);
-
-impl fmt::Display for Door {
-    fn fmt<W: fmt::Write>(&self, f: &mut fmt::Formatter<W>) -> fmt::Result {
-        match self.0 {
-            Some(queue) => write!(f, "queue {queue}"),
-            None => f.write_str("-"),
-        }
-    }
+/// Adds the cell of a flag, which is shown by its word if it is set.
+fn add_mark(is_set: bool, cell: &str, row: &mut Text) {
+    row.add(if is_set { cell } else { "\t-" });
 }
 
 /// The listings: the ticket of each with its waker, or with the word `called` if its task was woken. A long list is
 /// cut, and the cell says how many more there are.
 pub fn listed_cell(alloc: Global, listed: &Listed) -> Result<String, AllocError> {
     let listings = listed.listings();
-    let mut cell = String::new(alloc);
+    let mut cell = Text::new(alloc);
     if listings.is_empty() {
-        cell.push_str("-")?;
+        cell.add("-");
     }
     for (index, listing) in listings.values().take(MOST_LISTINGS).enumerate() {
-        let gap = if index == 0 { "" } else { " " };
+        cell.add(if index == 0 { "" } else { " " });
         match listing.waker {
-            Some(waker) => write!(cell, "{gap}{}:{waker}", listing.ticket)?,
-            None => write!(cell, "{gap}{}:called", listing.ticket)?,
+            Some(waker) => cell.fill("{}:{}", &[listing.ticket, waker]),
+            None => cell.fill("{}:called", &[listing.ticket]),
         }
     }
     let more = listings.len().saturating_sub(MOST_LISTINGS);
     if more > 0 {
-        write!(cell, " and {more} more")?;
+        cell.fill(" and {} more", &[more as u64]);
     }
-    Ok(cell)
+    cell.into_string()
 }
 
 /// Where a task stands.
@@ -95,18 +74,23 @@ impl Stand {
             Some(Step::Finished) => Stand::Gone,
         }
     }
-}
 
-impl fmt::Display for Stand {
-    fn fmt<W: fmt::Write>(&self, f: &mut fmt::Formatter<W>) -> fmt::Result {
-        match self {
-            Stand::Absent => f.write_str("-"),
-            Stand::New => f.write_str("new"),
-            Stand::Waits => f.write_str("waits"),
-            Stand::Holds => f.write_str("holds"),
-            Stand::UnderWay(word) => write!(f, "> {word}"),
-            Stand::Gone => f.write_str("gone"),
-        }
+    /// Adds the cell of a task that stands there.
+    pub fn add(self, row: &mut Text) {
+        let word = match self {
+            Stand::Absent => "-",
+            Stand::New => "new",
+            Stand::Waits => "waits",
+            Stand::Holds => "holds",
+            Stand::UnderWay(word) => {
+                row.add("\t> ");
+                row.add(word);
+                return;
+            }
+            Stand::Gone => "gone",
+        };
+        row.add("\t");
+        row.add(word);
     }
 }
 
@@ -133,16 +117,10 @@ fn place_word(place: &Place<u64, u64>) -> &'static str {
     }
 }
 
-/// What a line added to the record.
-#[derive(Clone, Copy)]
-pub struct Entries<'a>(pub &'a [Entry]);
-
-impl fmt::Display for Entries<'_> {
-    fn fmt<W: fmt::Write>(&self, f: &mut fmt::Formatter<W>) -> fmt::Result {
-        for (index, entry) in self.0.iter().enumerate() {
-            let gap = if index == 0 { "" } else { "; " };
-            write!(f, "{gap}{}", EntryLine(entry))?;
-        }
-        Ok(())
+/// Adds what a line added to the record.
+pub fn add_entries(entries: &[Entry], row: &mut Text) {
+    for (index, entry) in entries.iter().enumerate() {
+        row.add(if index == 0 { "" } else { "; " });
+        row.show(&EntryLine(entry));
     }
 }

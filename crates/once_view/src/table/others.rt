@@ -1,6 +1,6 @@
 //! The tasks for which a part of a table has no columns: how many are new, wait, hold, and so on.
 use super::cells::Stand;
-use std::fmt;
+use crate::text::Text;
 
 /// How many tasks there are that are not gone.
 #[derive(Clone, Copy)]
@@ -48,10 +48,9 @@ impl Others {
     pub fn is_empty(&self) -> bool {
         self.new == 0 && self.waiting == 0 && self.holding == 0 && self.calling == 0
     }
-}
 
-impl fmt::Display for Others {
-    fn fmt<W: fmt::Write>(&self, f: &mut fmt::Formatter<W>) -> fmt::Result {
+    /// Adds how many there are of each.
+    pub fn show(self, text: &mut Text) {
         let mut gap = "";
         for (count, word) in &[
             (self.new, "new"),
@@ -60,10 +59,11 @@ impl fmt::Display for Others {
             (self.calling, "in a call"),
         ] {
             if *count > 0 {
-                write!(f, "{gap}{count} {word}")?;
+                text.add(gap);
+                text.fill("{} ", &[*count]);
+                text.add(word);
                 gap = ", ";
             }
         }
-        Ok(())
     }
 }

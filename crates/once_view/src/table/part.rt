@@ -1,10 +1,9 @@
 //! The parts of a table.
 use super::cells::Stand;
 use super::others::Others;
-use super::writing::write_rows;
+use super::writing::show_rows;
+use crate::text::Text;
 use std::alloc::{AllocError, Global};
-use std::io;
-use std::io::Write;
 
 /// How many tasks a part has columns for.
 const MOST_TASKS: usize = 20;
@@ -100,7 +99,7 @@ fn parts_of(alloc: Global, tasks: usize, rows: &[Row]) -> Result<Vec<Part>, Allo
     Ok(parts)
 }
 
-/// A table that is written part by part.
+/// A table that is shown part by part.
 #[derive(Drop)]
 pub struct Writing {
     alloc: Global,
@@ -111,7 +110,7 @@ pub struct Writing {
 }
 
 impl Writing {
-    /// Nothing is written yet of a table with these tasks.
+    /// Nothing is shown yet of a table with these tasks.
     pub fn new(alloc: Global, tasks: Vec<Task>) -> Self {
         let mut all = Others::new();
         for task in &tasks {
@@ -120,35 +119,37 @@ impl Writing {
         Writing { alloc, tasks, all }
     }
 
-    /// Writes all rows, in parts with an empty line between two.
-    pub fn write<O: Write>(&mut self, rows: &[Row], output: &mut O) -> io::Result<()> {
+    /// Shows all rows, in parts with an empty line between two.
+    pub fn show(&mut self, rows: &[Row], text: &mut Text) -> Result<(), AllocError> {
         let mut rest = rows;
         for (number, part) in parts_of(self.alloc, self.tasks.len(), rows)?
             .iter()
             .enumerate()
         {
             if number > 0 {
-                writeln!(output)?;
+                text.add("\n");
             }
             let (first, later) = rest.split_at_checked(part.rows).unwrap_or((rest, &[]));
-            self.write_part(first, &part.columns, output)?;
+            self.show_part(first, &part.columns, text)?;
             rest = later;
         }
         Ok(())
     }
 
-    fn write_part<O: Write>(
+    fn show_part(
         &mut self,
         rows: &[Row],
         columns: &[usize],
-        output: &mut O,
-    ) -> io::Result<()> {
+        text: &mut Text,
+    ) -> Result<(), AllocError> {
         let others = self.others(columns);
         if !others.is_empty() {
-            writeln!(output, "other tasks: {others}")?;
+            text.add("other tasks: ");
+            others.show(text);
+            text.add("\n");
         }
-        let texts = self.texts(rows, columns)?;
-        write_rows(self.alloc, &texts, output)
+        let cells = self.cells(rows, columns)?;
+        show_rows(self.alloc, &cells, text)
     }
 
     /// The tasks that have none of these columns.
@@ -162,49 +163,34 @@ impl Writing {
         others
     }
 
-    /// The headers, and these rows below them.
-    fn texts(&mut self, rows: &[Row], columns: &[usize]) -> Result<Vec<String>, AllocError> {
-        let mut texts = Vec::new(self.alloc);
-        texts.push(self.headers(columns)?)?;
+    /// The cells of the headers, and of these rows below them.
+    fn cells(&mut self, rows: &[Row], columns: &[usize]) -> Result<String, AllocError> {
+        let mut cells = Text::new(self.alloc);
+        cells.add(HEADERS);
+        for place in columns {
+            if let Some(task) = self.tasks.get(*place) {
+                cells.fill("\ttask {}", &[task.number]);
+            }
+        }
+        cells.add("\trecord");
         for row in rows {
             self.stand(row.named);
-            texts.push(self.text(row, columns)?)?;
+            self.add_row(row, columns, &mut cells);
         }
-        Ok(texts)
+        cells.into_string()
     }
 
-    fn headers(&self, columns: &[usize]) -> Result<String, AllocError> {
-        let mut text = String::from_str(self.alloc, HEADERS)?;
-        self.add_names(columns, &mut text)?;
-        text.push_str("\trecord")?;
-        Ok(text)
-    }
-
-    /// Adds the headers of these columns.
-    fn add_names(&self, columns: &[usize], text: &mut String) -> Result<(), AllocError> {
+    /// Adds a row below those that are there.
+    fn add_row(&self, row: &Row, columns: &[usize], cells: &mut Text) {
+        cells.add("\n");
+        cells.add(&row.shared);
         for place in columns {
             if let Some(task) = self.tasks.get(*place) {
-                write!(text, "\ttask {}", task.number)?;
+                task.stand.add(cells);
             }
         }
-        Ok(())
-    }
-
-    fn text(&self, row: &Row, columns: &[usize]) -> Result<String, AllocError> {
-        let mut text = String::from_str(self.alloc, &row.shared)?;
-        self.add_stands(columns, &mut text)?;
-        write!(text, "\t{}", row.record)?;
-        Ok(text)
-    }
-
-    /// Adds where the tasks of these columns stand.
-    fn add_stands(&self, columns: &[usize], text: &mut String) -> Result<(), AllocError> {
-        for place in columns {
-            if let Some(task) = self.tasks.get(*place) {
-                write!(text, "\t{}", task.stand)?;
-            }
-        }
-        Ok(())
+        cells.add("\t");
+        cells.add(&row.record);
     }
 
     /// A task stands elsewhere after a row.

@@ -1,19 +1,19 @@
-//! Rows of cells, written below each other.
+//! Rows of cells, shown below each other.
+use crate::text::Text;
 use std::alloc::{AllocError, Global};
-use std::io;
-use std::io::Write;
 
 /// The most that a column is as wide as. A longer cell moves those after it to the right.
 const MOST_WIDE: usize = 100;
 
-/// Writes the rows, each column as wide as its widest cell. A tab stands between two cells of a row.
-pub fn write_rows<O: Write>(alloc: Global, rows: &[String], output: &mut O) -> io::Result<()> {
+/// Shows the rows, each column as wide as its widest cell. A tab stands between two cells of a row, and a line feed
+/// between two rows.
+pub fn show_rows(alloc: Global, rows: &str, text: &mut Text) -> Result<(), AllocError> {
     let mut widths = Vec::new(alloc);
-    for row in rows {
+    for row in rows.split('\n') {
         widen(&mut widths, row)?;
     }
-    for row in rows {
-        write_row(row, &widths, output)?;
+    for row in rows.split('\n') {
+        show_row(row, &widths, text);
     }
     Ok(())
 }
@@ -30,16 +30,17 @@ fn widen(widths: &mut Vec<usize>, row: &str) -> Result<(), AllocError> {
     Ok(())
 }
 
-// The blanks before a cell are written with it, so that no line ends with a blank.
-fn write_row<O: Write>(row: &str, widths: &[usize], output: &mut O) -> io::Result<()> {
+// The blanks before a cell are shown with it, so that no line ends with a blank.
+fn show_row(row: &str, widths: &[usize], text: &mut Text) {
     let mut blanks = 0usize;
     for (cell, width) in row.split('\t').zip(widths) {
         if !cell.is_empty() {
-            write!(output, "{:blanks$}{cell}", "")?;
+            text.add_blanks(blanks);
+            text.add(cell);
             blanks = 0;
         }
         let rest = width.saturating_sub(cell.len());
         blanks = blanks.saturating_add(rest).saturating_add(2);
     }
-    writeln!(output)
+    text.add("\n");
 }
