@@ -82,7 +82,8 @@ once 3/replace p v3 v4 p|Once 3 [Single(Own(ReplaceAnswers([None, Some(3), Some(
 lazy 3/run 2 p|Lazy([]) 3 [Run(2, Pending, true)]
 once 3/run 2 v4/|Once 3 [Run(2, Value(4), true)]
 once 3/run 2 e5 x/|Once 3 [Run(2, Error(5), false)]
-once 3/make 1/poll 1 7/run 1 p x/take/look|Once 3 [Single(Make(1)), Single(Poll(1, 7)), Run(1, Pending, false), Single(Own(Take)), Single(Look)]";
+once 3/make 1/poll 1 7/run 1 p x/take/look|Once 3 [Single(Make(1)), Single(Poll(1, 7)), Run(1, Pending, false), \
+Single(Own(Take)), Single(Look)]";
 
 fn read(alloc: Global, row: &str) -> Result<String, AllocError> {
     let (script, _) = row.split_once('|').unwrap_or((row, ""));
@@ -206,19 +207,23 @@ fn each_write_fails(rt: HostRuntime) -> Result<(), Fail> {
     Ok(())
 }
 
-// How many entries a record has that is printed of a script and read back.
-fn read_back(alloc: Global, script: &str) -> Result<usize, Fail> {
+// How many entries a record has that is printed of a script and read back, and how many lines were printed.
+fn read_back(alloc: Global, script: &str) -> Result<(usize, usize), Fail> {
     let mut printed = Vec::new(alloc);
     run_full(alloc, script.as_bytes(), &mut printed)?;
     let Ok(record) = parse_record(alloc, printed.as_slice()) else {
         return Err(Fail::new(script));
     };
-    Ok(record.entries.len())
+    let lines = String::from_utf8_lossy(alloc, printed.as_slice())?
+        .lines()
+        .count();
+    Ok((record.entries.len(), lines))
 }
 
+/// The first line is of the cell, and the last of the queue.
 #[test]
 fn a_record_is_read_back(rt: HostRuntime) -> Result<(), Fail> {
-    same(&rt, read_back(rt.alloc(), WAITERS)?, 21);
+    same(&rt, read_back(rt.alloc(), WAITERS)?, (22, 24));
     Ok(())
 }
 
