@@ -13,7 +13,8 @@ use Rattle.once_machine.specs.declared.step.Polled.{Polled}
 use Rattle.once_machine.specs.Steps.{MayClose, is_value, release_place, step_of_poll}
 use Rattle.once_machine.specs.Table.{Call, Load, Quick, Fast, CountIn, AddOne, CountOut, DoorGet, DoorPut, DoorTake, Section, Refuse, Run, Put}
 use Rattle.once_machine.specs.Table.{Told, Loaded, TriedQuick, TriedFast, CountedIn, Added, CountedOut, Got, PutQueue, Taken, Was, Refused, Ran, PutValue}
-use Rattle.once_machine.specs.Table.{GoesOn, Line, Looked, MayRefuse, Next, SideDid, Tells, after, after_copy, after_fast, after_list, after_load, after_quick, after_run, after_start, call_at, next_at, next_rest, wants_copy}
+use Rattle.once_machine.specs.Table.{GoesOn, Line, Looked, MayRefuse, Next, SideDid, Tells, after, after_copy, after_fast, after_list, after_load, after_quick, after_run, after_start}
+use Rattle.once_machine.specs.Table.{call_at, next_at, next_rest, wants_copy}
 use Rattle.once_machine.specs.declared.step.Ending.TheVariants.{Value as EndValue}
 use Rattle.once_machine.specs.declared.step.Ending.{Ending}
 use Rattle.once_machine.specs.declared.step.Progress.TheVariants.{More}
