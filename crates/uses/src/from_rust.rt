@@ -9,9 +9,8 @@ mod own_init;
 mod sizes;
 mod token;
 
-pub use own_error::Fault;
-
 use crate::{fault, print, print_value};
+pub use own_error::Fault;
 use std::alloc::AllocGlobal;
 use std::random::RandomSource;
 use std::sync::Wait;
