@@ -1,7 +1,7 @@
 //! The uses of `pagebook` at work, most of them by two threads; and the sizes and the lock of `pagebook`.
 ghost use Rattle.std.specs.Prelude.{◌≡◌};
 
-use crate::same::same;
+use crate::same::{same, same_text};
 use pagebook::{Blanks, Key, Keyed, KeyedMutex, Pens, Seen, Slot, Word, Written};
 use pagebook_uses::first::race;
 use pagebook_uses::hall::{Arrival, Desk, HallRule, Page, visits};
@@ -186,17 +186,13 @@ fn a_lock_keeps_its_book_and_shows_its_content(rt: HostRuntime) -> Result<(), Fa
         },
     );
     let last = lock.into_inner();
-    let shown = [free.as_str(), held.as_str()];
-    let wanted = [
-        "KeyedMutex { data: Tally { number: 7, sum: 7 }, .. }",
-        "KeyedMutex { data: \"<locked>\", .. }",
-    ];
     same(
         &rt,
         "the numbers and sums",
         [numbers.0, numbers.1, sum, last.number, last.sum],
         [7, 7, 12, 7, 12],
     );
-    same(&rt, "what the lock shows", shown, wanted);
+    same_text(&rt, "free", free.as_str(), "KeyedMutex { data: Tally { number: 7, sum: 7 }, .. }");
+    same_text(&rt, "held", held.as_str(), "KeyedMutex { data: \"<locked>\", .. }");
     Ok(())
 }

@@ -10,3 +10,8 @@ use std::process::Abort;
 pub fn same<T: PartialEq + Debug + Drop>(rt: &impl Abort, name: &str, found: T, wanted: T) {
     assert_eq!(rt; found, wanted, "{name}");
 }
+
+/// The same of two texts, which may live for different times: the borrow checker takes no two such values of `same`.
+pub fn same_text(rt: &impl Abort, name: &str, found: &str, wanted: &str) {
+    assert_eq!(rt; found, wanted, "{name}");
+}

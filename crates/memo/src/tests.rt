@@ -29,6 +29,11 @@ fn same<T: PartialEq + Debug + Drop>(rt: &impl Abort, name: &str, found: T, want
     assert_eq!(rt; found, wanted, "{name}");
 }
 
+// The same of two texts, which may live for different times.
+fn same_text(rt: &impl Abort, name: &str, found: &str, wanted: &str) {
+    assert_eq!(rt; found, wanted, "{name}");
+}
+
 fn table(alloc: Global, keys: &[u64]) -> Result<Memo<u64>, AllocError> {
     let mut given = Vec::new(alloc);
     given.extend_from_slice(keys)?;

@@ -2,7 +2,7 @@
 
 use super::errors::Errors;
 use super::watched::Watched;
-use super::{holder, same, table};
+use super::{holder, same, same_text, table};
 use crate::ask::KEYS;
 use crate::fault::Fault;
 use crate::{run, show, status};
@@ -12,6 +12,7 @@ use doubles::target::Target;
 use futures::test::MockTask;
 use std::alloc::{AllocError, AllocGlobal, Global};
 use std::io;
+use std::process::Abort;
 use std::random::RandomSource;
 use std::sync::Wait;
 use std::test::Fail;
@@ -66,6 +67,11 @@ impl Told {
     }
 }
 
+// Compares what is seen of a run. What is found and what is wanted may live for different times.
+fn same_run(rt: &impl Abort, name: &str, told: &Told, status: u8, said: &str, printed: &str) {
+    assert_eq!(rt; told.seen(), (status, said, printed.as_bytes()), "{name}");
+}
+
 // A run by this handle, beside a task that holds the cell of a key for good, and how many pauses it made.
 fn run_beside<R: Threads + Wait + RandomSource + AllocGlobal + Clock + Sync>(
     rt: &R,
@@ -92,12 +98,7 @@ const HELD: [(u64, u64, u64); 5] = [(1, 0, 0), (1, 1, 2), (1, 3, 6), (2, 3, 6), 
 fn turns_used_up_print_nothing(rt: HostRuntime) -> Result<(), Fail> {
     for (key, turns, pauses) in HELD {
         let (told, made) = run_beside(&rt, Watched::new(&rt), key, turns)?;
-        same(
-            &rt,
-            "a run",
-            told.seen(),
-            (1, TURNS_USED_UP, b"".as_slice()),
-        );
+        same_run(&rt, "a run", &told, 1, TURNS_USED_UP, "");
         let made = if key == 1 { made } else { pauses };
         same(
             &rt,
@@ -170,16 +171,8 @@ fn refused_memory_prints_nothing(rt: HostRuntime) -> Result<(), Fail> {
         told(rt.alloc(), no_table, first),
         told(rt.alloc(), no_thread, second),
     );
-    let wanted = [
-        (1, NO_MEMORY, b"".as_slice()),
-        (1, NO_THREAD, b"".as_slice()),
-    ];
-    same(
-        &rt,
-        "no table, no thread",
-        [first.seen(), second.seen()],
-        wanted,
-    );
+    same_run(&rt, "no table", &first, 1, NO_MEMORY, "");
+    same_run(&rt, "no thread", &second, 1, NO_THREAD, "");
     Ok(())
 }
 
@@ -202,25 +195,11 @@ fn a_failed_write_leaves_a_beginning(rt: HostRuntime) -> Result<(), Fail> {
         let told = written(&rt, &mut target)?;
         let (status, said, printed) = told.seen();
         let is_beginning = TEXT.as_bytes().starts_with(printed);
-        let seen = (
-            fails_at,
-            status,
-            said,
-            is_beginning,
-            printed.len() < TEXT.len(),
-        );
+        let seen = (fails_at, status, is_beginning, printed.len() < TEXT.len());
         let has_failed = target.has_failed();
-        let (status, said) = if has_failed {
-            (1, "broken pipe\n")
-        } else {
-            (0, "")
-        };
-        same(
-            &rt,
-            "the write that fails, and the run",
-            seen,
-            (fails_at, status, said, true, has_failed),
-        );
+        let (code, why) = if has_failed { (1, "broken pipe\n") } else { (0, "") };
+        same(&rt, "the write that fails, and the run", seen, (fails_at, code, true, has_failed));
+        same_text(&rt, "what the run says", said, why);
     }
     Ok(())
 }
@@ -229,12 +208,7 @@ fn a_failed_write_leaves_a_beginning(rt: HostRuntime) -> Result<(), Fail> {
 #[test]
 fn a_failed_flush_is_told(rt: HostRuntime) -> Result<(), Fail> {
     let told = written(&rt, &mut Target::new(rt.alloc(), usize::MAX, 0, true))?;
-    same(
-        &rt,
-        "a run",
-        told.seen(),
-        (1, "no storage space\n", TEXT.as_bytes()),
-    );
+    same_run(&rt, "a run", &told, 1, "no storage space\n", TEXT);
     Ok(())
 }
 
@@ -256,6 +230,6 @@ fn ends() -> [(Result<(), Fault>, u8, &'static str); 6] {
 fn a_line_says_why(rt: HostRuntime) {
     for (how, status, said) in ends() {
         let told = told(rt.alloc(), how, Vec::new(rt.alloc()));
-        same(&rt, said, told.seen(), (status, said, b"".as_slice()));
+        same_run(&rt, said, &told, status, said, "");
     }
 }
