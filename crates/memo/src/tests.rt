@@ -11,7 +11,6 @@ use crate::ask::{KEYS, ask};
 use crate::fault::Fault;
 use crate::table::Memo;
 use async_once_cell::once::{InitFuture, Known, Refused};
-use doubles::memory::hoard;
 use futures::future::{Pending, pending};
 use futures::test::MockTask;
 use std::alloc::{AllocError, AllocGlobal, Global};
@@ -22,6 +21,7 @@ use std::sync::Wait;
 use std::sync::atomic::{AtomicU64, Ordering};
 use std::test::Fail;
 use std::time::Clock;
+use test_doubles::memory::hoard;
 use watched::Watched;
 
 // The one comparison, which names the row or what is compared: an `assert_eq!` is dear to prove.

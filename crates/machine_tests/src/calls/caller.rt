@@ -4,7 +4,7 @@ ghost use Rattle.async_once_cell.specs.Inner.Sides.{IsReady};
 ghost use Rattle.async_once_cell.specs.Record.{EndsSet};
 
 use crate::bell::{Bell, Cell};
-use crate::side::TestSide;
+use crate::side::{Note, TestSide};
 use async_once_cell::inner::Task;
 use once_machine::step::{Ending, Polled};
 use std::alloc::AllocGlobal;
@@ -68,6 +68,13 @@ impl<'a, 'r, R: Wait + AllocGlobal> Caller<'a, 'r, R> {
             Ending::Value => Some(Ok(self.value())),
             ending => Some(Err(ending)),
         }
+    }
+
+    /// What its side noted since this was last asked; `None` says that a note was lost.
+    pub fn take(&mut self) -> Option<Vec<Note>>
+        ensures { self.new.task ≡ self.old.task }
+    {
+        self.side.take()
     }
 
     /// A drop, and how it ends. None if the task was finished.

@@ -1,5 +1,5 @@
 //! A task whose side uses another task of its cell in the middle of a step.
-ghost use Rattle.std.specs.Prelude.{◌≡◌, refl, false, true, ⊤};
+ghost use Rattle.std.specs.Prelude.{◌≡◌, [], refl, false, true, ⊤};
 ghost use Rattle.async_once_cell.specs.Inner.Sides.{IsReady};
 ghost use Rattle.std.proofs.Common.{rules};
 
@@ -45,6 +45,45 @@ impl<'a, 'r, R> Model for Meddling<'a, 'r, R> {
 }
 
 impl<R: Wait + AllocGlobal> Meddling<'_, '_, R> {
+    // Another call is to begin, in which nobody was woken yet.
+    fn begin(&mut self)
+        ensures { self.new ≡ record self.old { woke = [] } }
+    {
+        self.side.begin();
+    }
+
+    fn answers(&mut self, answer: Polled, is_granted: bool)
+        ensures { self.new ≡ self.old }
+    {
+        self.side.answers(answer, is_granted);
+    }
+
+    fn meddles(&mut self, at_run: Act, at_copy: Act)
+        ensures { self.new ≡ self.old }
+    {
+        self.at_run = at_run;
+        self.at_copy = at_copy;
+    }
+
+    fn take(&mut self) -> Option<Vec<Note>>
+        ensures { self.new ≡ self.old }
+    {
+        self.side.take()
+    }
+
+    fn take_others(&mut self) -> Option<Vec<Note>>
+        ensures { self.new ≡ self.old }
+    {
+        self.other.take()
+    }
+
+    fn other_polled(&mut self, answer: Polled, is_granted: bool) -> Option<Result<u64, Ending>>
+        ensures { self.new ≡ self.old }
+    {
+        self.other.answers(answer, is_granted);
+        self.other.polled()
+    }
+
     // Does this to the other task, if that is not finished.
     fn obey(&mut self, act: Act)
         ensures { self.new ≡ self.old }
@@ -180,13 +219,12 @@ impl<'a, 'r, R: Wait + AllocGlobal> Meddler<'a, 'r, R> {
     /// From now on it does the first when its init is polled and when it wakes others, and the second when its waker
     /// is copied.
     pub fn meddles(&mut self, at_run: Act, at_copy: Act) {
-        self.side.at_run = at_run;
-        self.side.at_copy = at_copy;
+        self.side.meddles(at_run, at_copy);
     }
 
     /// Its init answers so from now on, and memory for a copy of the waker is given or not.
     pub fn answers(&mut self, answer: Polled, is_granted: bool) {
-        self.side.side.answers(answer, is_granted);
+        self.side.answers(answer, is_granted);
     }
 
     /// A poll, and how it ends. None if the task was finished.
@@ -194,7 +232,7 @@ impl<'a, 'r, R: Wait + AllocGlobal> Meddler<'a, 'r, R> {
         if self.task.is_finished() {
             return None;
         }
-        self.side.side.begin();
+        self.side.begin();
         match self.task.poll(&mut self.side) {
             Ending::Value => {
                 let (value, _) = self.task.value();
@@ -209,7 +247,7 @@ impl<'a, 'r, R: Wait + AllocGlobal> Meddler<'a, 'r, R> {
         if self.task.is_finished() {
             return None;
         }
-        self.side.side.begin();
+        self.side.begin();
         self.task.leave(&mut self.side);
         Some(Err(Ending::Dropped))
     }
@@ -225,18 +263,17 @@ impl<'a, 'r, R: Wait + AllocGlobal> Meddler<'a, 'r, R> {
         answer: Polled,
         is_granted: bool,
     ) -> Option<Result<u64, Ending>> {
-        self.side.other.answers(answer, is_granted);
-        self.side.other.polled()
+        self.side.other_polled(answer, is_granted)
     }
 
     /// What its side noted since this was last asked; `None` says that a note was lost.
     pub fn take(&mut self) -> Option<Vec<Note>> {
-        self.side.side.take()
+        self.side.take()
     }
 
     /// The same of the other task's side.
     pub fn take_others(&mut self) -> Option<Vec<Note>> {
-        self.side.other.side.take()
+        self.side.take_others()
     }
 
     /// How the last call of the other task ended that this one made.

@@ -116,7 +116,12 @@ fn values_of_keys(rt: HostRuntime) -> Result<(), Fail> {
     let keys = Vec::from_array(rt.alloc(), KEYS)?;
     let memo = Memo::<u64, TenTimes>::promised(rt.alloc(), keys)?;
     let seen = told_in_turn(&rt, &memo)?;
-    same(&rt, "the values in turn, and the fetches", seen, ([70, 50, 70], 2));
+    same(
+        &rt,
+        "the values in turn, and the fetches",
+        seen,
+        ([70, 50, 70], 2),
+    );
     Ok(())
 }
 

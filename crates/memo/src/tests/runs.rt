@@ -7,8 +7,6 @@ use crate::ask::KEYS;
 use crate::fault::Fault;
 use crate::{run, show, status};
 use async_once_cell::once::Refused;
-use doubles::memory::hoard;
-use doubles::target::Target;
 use futures::test::MockTask;
 use std::alloc::{AllocError, AllocGlobal, Global};
 use std::io;
@@ -18,6 +16,8 @@ use std::sync::Wait;
 use std::test::Fail;
 use std::thread::Threads;
 use std::time::Clock;
+use test_doubles::memory::hoard;
+use test_doubles::target::Target;
 
 const TEXT: &str = "1 10\n2 20\n3 30\nfetches 3\n";
 
@@ -197,8 +197,17 @@ fn a_failed_write_leaves_a_beginning(rt: HostRuntime) -> Result<(), Fail> {
         let is_beginning = TEXT.as_bytes().starts_with(printed);
         let seen = (fails_at, status, is_beginning, printed.len() < TEXT.len());
         let has_failed = target.has_failed();
-        let (code, why) = if has_failed { (1, "broken pipe\n") } else { (0, "") };
-        same(&rt, "the write that fails, and the run", seen, (fails_at, code, true, has_failed));
+        let (code, why) = if has_failed {
+            (1, "broken pipe\n")
+        } else {
+            (0, "")
+        };
+        same(
+            &rt,
+            "the write that fails, and the run",
+            seen,
+            (fails_at, code, true, has_failed),
+        );
         same_text(&rt, "what the run says", said, why);
     }
     Ok(())

@@ -1,6 +1,5 @@
 //! A handle that counts pauses, and may have no memory from some request on.
 
-use doubles::memory::hoard;
 use std::alloc::{Alloc, AllocGlobal, Global};
 use std::io;
 use std::random::RandomSource;
@@ -8,6 +7,7 @@ use std::sync::atomic::{AtomicU64, Ordering};
 use std::sync::{OnceLock, Wait};
 use std::thread::Threads;
 use std::time::{Clock, Duration};
+use test_doubles::memory::hoard;
 
 /// A handle that passes all on to another. It counts the pauses of a millisecond that are made by it. From one
 /// request for its allocator on, it holds all memory there is until it is dropped.
