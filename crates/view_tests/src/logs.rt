@@ -1,13 +1,13 @@
 //! The queue log of a record: which queue was put to the door, entered and taken out.
 
-use machine_tests::doubles::schedule::schedules_in;
 use once_script::fault::Fault;
 use once_script::parse::{Line, RUN_STEPS, parse_script};
 use once_script::world::{Input, QueueLine, replay};
 use std::alloc::{AllocError, Global};
 use std::test::Fail;
+use test_doubles::schedule::schedules_in;
 
-// Schedules in the form of `machine_tests::doubles::schedule`. Beside a line stands what it adds to the queue log.
+// Schedules in the form of `test_doubles::schedule`. Beside a line stands what it adds to the queue log.
 const LOGS: &str = "\
 # plain_path: nobody waits, and no queue is put
 once 8

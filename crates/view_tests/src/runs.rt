@@ -1,8 +1,6 @@
 //! Runs of `once_replay` whose readers, writers or memory fail, what a script is read as, and a world by hand.
 
 use crate::same::same;
-use machine_tests::doubles::memory::{hoard, hoard_most, hoard_rest};
-use machine_tests::doubles::target::Target;
 use once_machine::step::{Place, Step};
 use once_script::fault::Fault;
 use once_script::parse::parse_script;
@@ -13,6 +11,8 @@ use std::alloc::{AllocError, Global};
 use std::io;
 use std::io::{ErrorKind, Read, Write};
 use std::test::Fail;
+use test_doubles::memory::{hoard, hoard_most, hoard_rest};
+use test_doubles::target::Target;
 
 /// A reader that gives a text in pieces, and fails at the read with this number.
 #[derive(Drop)]

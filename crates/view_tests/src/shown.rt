@@ -1,12 +1,12 @@
 //! Faults of showing that no case has: a write that fails after others, a flush that does, and memory that is refused.
 
 use crate::same::same;
-use machine_tests::doubles::target::Target;
 use once_view::fault::Fault;
 use once_view::{Format, show};
 use std::alloc::{AllocError, AllocFailed, Global};
 use std::io;
 use std::test::Fail;
+use test_doubles::target::Target;
 
 /// Memory that is refused, to whomever, is told as such.
 #[test]
@@ -32,9 +32,10 @@ fn large(alloc: Global, tasks: u64, looks: usize) -> Result<String, AllocError> 
     Ok(text)
 }
 
-// How a showing ends whose write with this number fails; or whose flush does, if the number is 0.
+// How a showing ends if its pipe takes some thousand bytes at a time, and the write with this number fails; or its flush,
+// if the number is 0.
 fn status(alloc: Global, format: Format, text: &str, fails_at: u64) -> u8 {
-    let target = Target::new(alloc, usize::MAX, fails_at, fails_at == 0);
+    let target = Target::new(alloc, 1_000, fails_at, fails_at == 0);
     match show(alloc, format, text.as_bytes(), target) {
         Ok(_) => 0,
         Err(fault) => fault.status(),
