@@ -9,6 +9,7 @@ use async_once_cell::{OnceCell, TryInitFuture};
 use futures::Future;
 use futures::task::{Context, Poll};
 use futures::test::MockTask;
+use machine_tests::doubles::poll::{heard, tasks};
 use once_view::observed::{Event, Observed};
 use rand_core::{Rng, SeedableRng};
 use rand_xoshiro::Xoshiro256PlusPlus;
@@ -19,7 +20,6 @@ use std::sync::{Mutex, MutexGuard, Wait};
 use std::test::Fail;
 use std::thread::{self, Threads};
 use std::time::{Clock, Duration};
-use test_doubles::poll::{heard, tasks};
 
 type Tried = Result<u64, u64>;
 
