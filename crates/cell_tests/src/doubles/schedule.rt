@@ -67,17 +67,13 @@ struct Schedule<'o, 'a, 'i, R: Wait + AllocGlobal> {
 }
 
 impl<'o, 'a: 'o, 'i: 'o, R: Wait + AllocGlobal> Schedule<'o, 'a, 'i, R> {
-    fn new(scene: Scene<'o, 'a, 'i, R>) -> Result<Self, AllocError> {
-        let mut futures = Vec::new(scene.rt.alloc());
-        for _ in 0..scene.tasks.tasks.len() {
-            futures.push(None)?;
-        }
-        Ok(Schedule {
+    fn new(scene: Scene<'o, 'a, 'i, R>, futures: Vec<Option<Made<'o, 'a, 'i, R>>>) -> Self {
+        Schedule {
             scene,
             futures,
             starves: false,
             turn: 0,
-        })
+        }
     }
 
     fn run(&mut self, name: &str, lines: &'o str) -> Result<(), Fail> {
@@ -262,6 +258,15 @@ fn come_to(what: &str, found: usize, least: usize) -> Result<(), Fail> {
     Err(Fail::new(format_args!("{found} {what}, and not {least}")))
 }
 
+// So many places for futures, all empty.
+fn places<T: Drop>(alloc: Global, count: usize) -> Result<Vec<Option<T>>, AllocError> {
+    let mut places = Vec::new(alloc);
+    for _ in 0..count {
+        places.push(None)?;
+    }
+    Ok(places)
+}
+
 // Runs the lines between two calls of the owner.
 fn run_part<'s, 'i: 's, R: Wait + AllocGlobal>(
     rt: &'s R,
@@ -272,6 +277,7 @@ fn run_part<'s, 'i: 's, R: Wait + AllocGlobal>(
     let Some(task) = tasks.tasks.get(1) else {
         return Ok(());
     };
+    let futures = places(rt.alloc(), tasks.tasks.len())?;
     let other = Other::new(cell, rt, task);
     let scene = Scene {
         rt,
@@ -281,7 +287,7 @@ fn run_part<'s, 'i: 's, R: Wait + AllocGlobal>(
         inits,
         tasks,
     };
-    let mut schedule = Schedule::new(scene)?;
+    let mut schedule = Schedule::new(scene, futures);
     schedule.run(name, lines)
 }
 

@@ -1,7 +1,7 @@
 //! Schedules of which each request for memory is refused in turn.
 
 use super::scene::{Inits, Scene, Tasks};
-use super::{Schedule, come_to, most, named, turns_in};
+use super::{Schedule, come_to, most, named, places, turns_in};
 use crate::doubles::made::Made;
 use crate::doubles::other::Other;
 use crate::doubles::poll::wake;
@@ -134,6 +134,7 @@ fn works_after<'s, 'i: 's, R: Wait + AllocGlobal>(
     let Some(task) = tasks.tasks.get(1) else {
         return Ok(false);
     };
+    let futures = places(rt.alloc(), tasks.tasks.len())?;
     let other = Other::new(cell, rt, task);
     let scene = Scene {
         rt,
@@ -143,7 +144,7 @@ fn works_after<'s, 'i: 's, R: Wait + AllocGlobal>(
         inits,
         tasks,
     };
-    let mut schedule = Schedule::new(scene)?;
+    let mut schedule = Schedule::new(scene, futures);
     schedule.run_rationed(lines, rations)?;
     let settles = schedule.settles();
     schedule.futures.clear();
