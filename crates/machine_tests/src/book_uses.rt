@@ -192,17 +192,9 @@ fn a_lock_keeps_its_book_and_shows_its_content(rt: HostRuntime) -> Result<(), Fa
         [numbers.0, numbers.1, sum, last.number, last.sum],
         [7, 7, 12, 7, 12],
     );
-    same_text(
-        &rt,
-        "free",
-        free.as_str(),
-        "KeyedMutex { data: Tally { number: 7, sum: 7 }, .. }",
-    );
-    same_text(
-        &rt,
-        "held",
-        held.as_str(),
-        "KeyedMutex { data: \"<locked>\", .. }",
-    );
+    let shown = "KeyedMutex { data: Tally { number: 7, sum: 7 }, .. }";
+    same_text(&rt, "free", free.as_str(), shown);
+    let locked = "KeyedMutex { data: \"<locked>\", .. }";
+    same_text(&rt, "held", held.as_str(), locked);
     Ok(())
 }

@@ -3,7 +3,7 @@
 //! `book_uses` runs the uses of `pagebook`. `fills` and `room` have what the list of those that wait takes of memory.
 //! `parts` has the parts of a cell alone, by hand; `scenes` has tasks over them step by step, and `calls` by whole
 //! calls. Both are scenes (`plays`) of tasks whose sides (`side`) poll inits (`poller`) and have wakers (`bell`) of
-//! their own. `doubles` is for the tests of cells, of `memo` and of `once_show` too.
+//! their own. `doubles` is for the tests of cells and of pictures too.
 #![tactic(auto)]
 
 #[cfg(test)]

@@ -32,7 +32,7 @@ fn large(alloc: Global, tasks: u64, looks: usize) -> Result<String, AllocError> 
     Ok(text)
 }
 
-// How a showing ends if its pipe takes some thousand bytes at a time, and the write with this number fails; or its flush,
+// How a showing ends if its pipe takes a thousand bytes at a time, and the write with this number fails; or its flush,
 // if the number is 0.
 fn status(alloc: Global, format: Format, text: &str, fails_at: u64) -> u8 {
     let target = Target::new(alloc, 1_000, fails_at, fails_at == 0);

@@ -1,8 +1,6 @@
 //! Inits that fail while another waits, which then fills the cell at once.
 ghost use Rattle.std.specs.Prelude.{◌≡◌, false};
 
-use machine_tests::doubles::poll::heard;
-use machine_tests::doubles::left::is_filled;
 use crate::doubles::meeting::meet;
 use async_once_cell::once::TryInitFuture;
 use async_once_cell::record::Reply;
@@ -11,6 +9,8 @@ use futures::Future;
 use futures::future::ready;
 use futures::task::{Context, Poll};
 use futures::test::MockTask;
+use machine_tests::doubles::left::is_filled;
+use machine_tests::doubles::poll::heard;
 use std::alloc::AllocGlobal;
 use std::io;
 use std::random::RandomSource;

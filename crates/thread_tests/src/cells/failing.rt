@@ -2,11 +2,11 @@
 //! cells are filled at last, and no thread waits in vain.
 
 use super::gathered::{CELLS, THREADS, Visited, alike, gathered};
-use machine_tests::doubles::left::FILLED;
 use crate::doubles::slow::{Driven, Failing, Slow, ended, left_midway};
 use async_once_cell::record::Reply;
 use async_once_cell::{Lazy, OnceCell};
 use futures::test::MockTask;
+use machine_tests::doubles::left::FILLED;
 use machine_tests::doubles::text::shows;
 use std::alloc::{AllocError, AllocGlobal, Global};
 use std::io;

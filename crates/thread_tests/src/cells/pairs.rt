@@ -1,8 +1,6 @@
 //! Two threads, each with a task: one polls while the other is inside the init.
 ghost use Rattle.std.specs.Prelude.{◌≡◌, IfSome};
 
-use machine_tests::doubles::poll::heard;
-use machine_tests::doubles::left::FILLED;
 use crate::doubles::meeting::{Meeting, Spinning};
 use async_once_cell::once::Known;
 use async_once_cell::record::Reply;
@@ -10,6 +8,8 @@ use async_once_cell::{Lazy, LazyFuturePin, OnceCell};
 use futures::Future;
 use futures::future::ready;
 use futures::test::MockTask;
+use machine_tests::doubles::left::FILLED;
+use machine_tests::doubles::poll::heard;
 use machine_tests::doubles::text::shows;
 use std::alloc::AllocGlobal;
 use std::sync::Wait;

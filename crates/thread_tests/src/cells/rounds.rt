@@ -1,12 +1,12 @@
 //! Threads that use one cell in rounds. Between two of them its owner looks at all that is left.
 
-use machine_tests::doubles::poll::tasks;
 use crate::doubles::Tried;
-use machine_tests::doubles::left::{is_filled, is_free};
 use crate::doubles::slow::{Slow, ended, left_midway};
 use async_once_cell::OnceCell;
 use async_once_cell::record::Reply;
 use futures::test::MockTask;
+use machine_tests::doubles::left::{is_filled, is_free};
+use machine_tests::doubles::poll::tasks;
 use rand_core::{Rng, SeedableRng};
 use rand_xoshiro::Xoshiro256PlusPlus;
 use std::alloc::{AllocError, AllocGlobal};

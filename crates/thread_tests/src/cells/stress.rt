@@ -2,11 +2,11 @@
 
 use super::gathered::{CELLS, THREADS, Visited, alike, gathered};
 use crate::doubles::Tried;
-use machine_tests::doubles::left::FILLED;
 use crate::doubles::slow::{Driven, Slow, ended};
 use async_once_cell::OnceCell;
 use async_once_cell::record::Reply;
 use futures::test::MockTask;
+use machine_tests::doubles::left::FILLED;
 use machine_tests::doubles::text::shows;
 use std::alloc::{AllocError, AllocGlobal, Global};
 use std::io;

@@ -1,8 +1,6 @@
 //! Threads that hold one cell in turn, fill many cells, or look at a cell that others use.
 
-use machine_tests::doubles::poll::{heard, polled, tasks};
 use crate::doubles::Tried;
-use machine_tests::doubles::left::{has_text, is_filled, is_free};
 use crate::doubles::meeting::meet;
 use crate::doubles::slow::Slow;
 use async_once_cell::OnceCell;
@@ -11,6 +9,8 @@ use futures::Future;
 use futures::future::{pending, ready};
 use futures::task::{Context, Poll};
 use futures::test::MockTask;
+use machine_tests::doubles::left::{has_text, is_filled, is_free};
+use machine_tests::doubles::poll::{heard, polled, tasks};
 use std::alloc::{AllocError, AllocGlobal};
 use std::io;
 use std::random::RandomSource;

@@ -1,13 +1,13 @@
 //! Two threads, each with a token of its own: what both were told is one value.
 ghost use Rattle.std.specs.Prelude.{◌≡◌, IfSome};
 
-use machine_tests::doubles::left::FILLED;
 use crate::doubles::meeting::{Blocking, Meeting};
 use async_once_cell::OnceCell;
 use async_once_cell::once::{InitError, Known, TryInitFuture};
 use futures::Future;
 use futures::executor::block_on;
 use futures::task::{Context, Poll};
+use machine_tests::doubles::left::FILLED;
 use machine_tests::doubles::text::shows;
 use std::alloc::AllocGlobal;
 use std::mem;

@@ -1,6 +1,5 @@
 //! Inits that take several polls, and futures that many threads drive, each by its own task.
 
-use machine_tests::doubles::poll::heard;
 use crate::doubles::Tried;
 use async_once_cell::LazyFuturePin;
 use async_once_cell::once::TryInitFuture;
@@ -8,6 +7,7 @@ use async_once_cell::record::Reply;
 use futures::Future;
 use futures::task::{Context, Poll};
 use futures::test::MockTask;
+use machine_tests::doubles::poll::heard;
 use std::alloc::AllocGlobal;
 use std::sync::Wait;
 use std::sync::atomic::{AtomicU64, Ordering};
