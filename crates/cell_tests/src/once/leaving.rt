@@ -2,17 +2,18 @@
 ghost use Rattle.std.specs.Prelude.{◌≡◌, IfSome, false};
 
 use crate::doubles::expected::is_shown;
-use crate::doubles::other::{Meddling, Other};
 use crate::doubles::poll::heard;
 use crate::doubles::same;
 use crate::doubles::schedule::run;
-use crate::doubles::stub::Stub;
+use crate::doubles::stub::{Stub, count};
 use async_once_cell::OnceCell;
 use async_once_cell::once::InitFuture;
 use async_once_cell::record::Reply;
-use futures::task::Context;
+use futures::Future;
+use futures::task::{Context, Poll};
 use futures::test::MockTask;
 use std::alloc::AllocGlobal;
+use std::cell::Cell;
 use std::sync::Wait;
 use std::test::Fail;
 
@@ -59,16 +60,47 @@ const COUNTED: &str =
 const LEFT: &str =
     "OnceCell { value: Some(2), inner: Inner { ready: true, quick_init: false, refcount: 0, queue: false } }";
 
-// An init that looks at its cell when it is dropped.
-type Looks<'o, 'a, R> = Meddling<'o, 'a, u64, R>;
+// An init that looks at its cell when it is dropped, and else does as its stub says.
+struct Looks<'a> {
+    cell: &'a OnceCell<u64>,
+    // What the cell's Debug text is to be then.
+    wanted: &'a str,
+    // Whether it was.
+    found: &'a Cell<Option<bool>>,
+    stub: &'a Stub<u64>,
+}
+
+impl Drop for Looks<'_> {
+    fn drop(self) {
+        let Looks {
+            cell,
+            wanted,
+            found,
+            stub,
+        } = self;
+        count(&stub.drops);
+        found.set(Some(is_shown(cell, wanted)));
+    }
+}
+
+impl Future for Looks<'_> {
+    type Output = u64;
+
+    fn poll(&mut self, cx: &mut Context<'_>) -> Poll<u64> {
+        match self.stub.asked() {
+            Some(answer) => Poll::Ready(answer),
+            None => cx.yield_now(),
+        }
+    }
+}
 
 // A future that waits, while another sets the value of the cell to 2. None if it does not wait.
-fn waiter<'o, 'a, R: Wait + AllocGlobal>(
-    rt: &'o R,
-    cell: &'o OnceCell<u64>,
-    looks: Looks<'o, 'a, R>,
+fn waiter<'a, R: Wait + AllocGlobal>(
+    rt: &'a R,
+    cell: &'a OnceCell<u64>,
+    looks: Looks<'a>,
     cx: &mut Context<'_>,
-) -> Option<InitFuture<'o, u64, Looks<'o, 'a, R>, R>>
+) -> Option<InitFuture<'a, u64, Looks<'a>, R>>
     ensures { IfSome result (λ f. (f.cell ≡ cell.now) × (f.finished ≡ false)) }
 {
     let stub = Stub::new();
@@ -83,29 +115,35 @@ fn waiter<'o, 'a, R: Wait + AllocGlobal>(
     Some(waiter)
 }
 
-// What a poll with a token that knows the value answers to a future that waits.
-fn left_by_a_poll<'o, 'a, R: Wait + AllocGlobal>(
-    rt: &'o R,
-    cell: &'o OnceCell<u64>,
-    looks: Looks<'o, 'a, R>,
+// What a poll with a token that knows the value answers to a future that waits, and what its init has noted then.
+fn left_by_a_poll<'a, R: Wait + AllocGlobal>(
+    rt: &'a R,
+    looks: Looks<'a>,
     cx: &mut Context<'_>,
-) -> Option<Reply> {
+) -> Option<(Reply, Option<bool>)> {
+    let (cell, found) = (looks.cell, looks.found);
     let mut waiter = waiter(rt, cell, looks, cx)?;
     let mut token = cell.token();
     let _ = cell.get_as(&mut token);
-    Some(heard(waiter.poll_as(cx, &mut token)))
+    let told = heard(waiter.poll_as(cx, &mut token));
+    Some((told, found.get()))
 }
 
 /// A future that waits leaves its cell when it is polled with a token that knows the value. Its init is not polled
 /// again, and is dropped before it leaves.
 #[test]
 fn init_dropped_before_a_knowing_poll_leaves(rt: HostRuntime) -> Result<(), Fail> {
-    let (task, cell, stub) = (MockTask::new(&rt)?, OnceCell::new(), Stub::new());
-    let other = Other::new(&cell, &rt, &task);
-    let looks = Meddling::new(&other, &stub, ("", COUNTED));
-    let told = task.enter(|cx| left_by_a_poll(&rt, &cell, looks, cx));
-    let found = (other.found.get(), is_shown(&cell, LEFT), stub.counts());
-    same(&rt, "told", told, Some(Reply::Value(2)));
-    same(&rt, "found and left", found, (Some(true), true, (0, 1)));
+    let (task, cell, found) = (MockTask::new(&rt)?, OnceCell::new(), Cell::new(None));
+    let stub = Stub::new();
+    let looks = Looks {
+        cell: &cell,
+        wanted: COUNTED,
+        found: &found,
+        stub: &stub,
+    };
+    let told = task.enter(|cx| left_by_a_poll(&rt, looks, cx));
+    let is_left = is_shown(&cell, LEFT);
+    same(&rt, "told", told, Some((Reply::Value(2), Some(true))));
+    same(&rt, "left", (is_left, stub.counts()), (true, (0, 1)));
     Ok(())
 }
