@@ -38,7 +38,7 @@ struct Told {
 }
 
 // What is seen of a run that ended so.
-fn told(alloc: Global, how: Result<(), Fault>, printed: Vec<u8>) -> Told {
+fn told_of(alloc: Global, how: Result<(), Fault>, printed: Vec<u8>) -> Told {
     let errors = Errors::new(alloc);
     Told {
         status: status(&errors, how),
@@ -86,7 +86,7 @@ fn run_beside<R: Threads + Wait + RandomSource + AllocGlobal + Clock + Sync>(
     drop(holder);
     let pauses = by.pauses();
     drop(by);
-    Ok((told(rt.alloc(), how, printed), pauses))
+    Ok((told_of(rt.alloc(), how, printed), pauses))
 }
 
 // The key that is held, the turns, and the pauses that both threads make, where it is the first key.
@@ -120,7 +120,7 @@ fn run_starving<R: Threads + Wait + RandomSource + AllocGlobal + Clock + Sync>(
     let how = run(&by, &mut printed);
     let has_starved = by.has_starved();
     drop(by);
-    Ok((told(rt.alloc(), how, printed), has_starved))
+    Ok((told_of(rt.alloc(), how, printed), has_starved))
 }
 
 /// A run that has no memory from some request on prints all of its lines, or none. One that has memory to its end
@@ -168,8 +168,8 @@ fn refused_memory_prints_nothing(rt: HostRuntime) -> Result<(), Fail> {
     let no_thread = show(&rt, &memo, 1, &mut second);
     drop(held);
     let (first, second) = (
-        told(rt.alloc(), no_table, first),
-        told(rt.alloc(), no_thread, second),
+        told_of(rt.alloc(), no_table, first),
+        told_of(rt.alloc(), no_thread, second),
     );
     same_run(&rt, "no table", &first, 1, NO_MEMORY, "");
     same_run(&rt, "no thread", &second, 1, NO_THREAD, "");
@@ -184,7 +184,7 @@ fn written<R: Threads + Wait + RandomSource + AllocGlobal + Clock + Sync>(
     let how = run(rt, target);
     let mut printed = Vec::new(rt.alloc());
     printed.extend_from_slice(target.text())?;
-    Ok(told(rt.alloc(), how, printed))
+    Ok(told_of(rt.alloc(), how, printed))
 }
 
 /// If a write fails, a beginning has gone out, and the run gives up.
@@ -238,7 +238,7 @@ fn ends() -> [(Result<(), Fault>, u8, &'static str); 6] {
 #[test]
 fn a_line_says_why(rt: HostRuntime) {
     for (how, status, said) in ends() {
-        let told = told(rt.alloc(), how, Vec::new(rt.alloc()));
+        let told = told_of(rt.alloc(), how, Vec::new(rt.alloc()));
         same_run(&rt, said, &told, status, said, "");
     }
 }
