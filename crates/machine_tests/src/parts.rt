@@ -42,29 +42,31 @@ fn one_task_fills_a_cell(rt: HostRuntime) -> Result<(), Fail> {
     Ok(())
 }
 
+// What a call answers says what the next may do, so each answer is asserted before that.
 #[test]
 fn who_finds_a_holder_waits(rt: HostRuntime) {
     let cell = Cell::new();
     let (mut holder, mut waiter) = (cell.task(&rt), cell.task(&rt));
     holder.begin();
-    let first = (holder.load(), holder.quick());
+    let word = holder.load();
+    assert_eq!(rt; word, 0);
+    let won = holder.quick();
+    assert!(rt; won);
+
     waiter.begin();
-    let second = (
-        waiter.load(),
-        waiter.door_get().is_some(),
-        waiter.door_put().is_some(),
-    );
-    let counted = (waiter.count_in(), waiter.load());
-    let answer = waiter.section(&(), &mut Op::Look(None));
-    same(&rt, "the holder", first, (0, true));
-    same(&rt, "the queue", second, (QINIT_BIT, false, true));
-    same(
-        &rt,
-        "the count",
-        counted,
-        (Counted::In(QINIT_BIT), QINIT_BIT + 1),
-    );
-    same(&rt, "the look", matches!(answer, Answer::Held), true);
+    let word = waiter.load();
+    assert_eq!(rt; word, QINIT_BIT);
+    let there = waiter.door_get();
+    assert!(rt; there.is_none());
+    let put = waiter.door_put();
+    assert!(rt; put.is_some());
+    let counted = waiter.count_in();
+    assert_eq!(rt; counted, Counted::In(QINIT_BIT));
+    let word = waiter.load();
+    assert_eq!(rt; word, QINIT_BIT + 1);
+    let mut op = Op::Look(None);
+    let answer = waiter.section(&(), &mut op);
+    assert!(rt; matches!(answer, Answer::Held));
 }
 
 // A task has two references, to the cell and to the runtime, and where the next call begins. A step has more, since it
