@@ -73,12 +73,14 @@ impl<R: Wait + AllocGlobal> Future for Task<'_, R> {
     fn poll(&mut self, cx: &mut Context<'_>) -> Poll<()> {
         self.log
             .write(self.rt, Entry::Begin(self.number, self.number));
-        let reply = heard(Future::poll(&mut self.future, cx));
+        let polled = Future::poll(&mut self.future, cx);
+        let is_pending = polled.is_pending();
+        let reply = heard(polled);
         self.log.write(self.rt, Entry::End(self.number, reply));
-        match reply {
-            Reply::Pending => Poll::Pending,
-            _ => Poll::Ready(()),
+        if is_pending {
+            return Poll::Pending;
         }
+        Poll::Ready(())
     }
 }
 
