@@ -1,5 +1,6 @@
 //! What a caller takes to the owner of its cell.
 ghost use Rattle.std.specs.Prelude.{◌≡◌, MatchOption, None, Some};
+ghost use Rattle.async_once_cell.specs.Prelude.{Owned};
 
 use async_once_cell::{Known, OnceCell, Told};
 use pagebook::Fits;
@@ -16,4 +17,15 @@ pub fn told_before_look<'a, T, V: Fits<T>>(
     let told = token.told();
     cell.get_as(token);
     told
+}
+
+/// The owner gets the value that it was told, and writes another in its place.
+pub fn written<V: Fits<u64>>(cell: &mut OnceCell<u64, V>, told: &Told<u64, V>, value: u64)
+    requires told_of_this_cell { told.now.cell ≡ cell.old }
+    ensures { cell.new ≡ Owned value }
+{
+    cell.own_as(told);
+    if let Some(place) = cell.get_mut() {
+        *place = value;
+    }
 }

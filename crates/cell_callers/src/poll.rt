@@ -1,7 +1,8 @@
 //! Polls of a cell's future.
 ghost use Rattle.std.specs.Prelude.{◌≡◌, IfSome, None, Some, false, true};
 ghost use Rattle.async_once_cell.specs.Prelude.{Begin, IsOneCall, IsSetIn, IsValue, MayGive, ending_by};
-ghost use Rattle.async_once_cell.specs.Prelude.{ending_of_refusal, end_of, gave_value, is_shared, value_of};
+ghost use Rattle.async_once_cell.specs.Prelude.{ending_of_refusal, end_of, gave_value, is_shared, value_of, IsArmed};
+ghost use Rattle.async_once_cell.specs.Prelude.{OnPending};
 
 use async_once_cell::{InitFuture, Known, OnceCell, Refused};
 use futures::Future;
@@ -39,6 +40,21 @@ where
     ensures { IsValue result }
 {
     Future::poll(future, cx)
+}
+
+/// A poll of a future that may be finished. If it is Pending, it has registered its task, or asked for another poll.
+pub fn polled_if_unfinished<'a, R>(
+    future: &mut Brought<'a, R>,
+    cx: &mut Context<'_>,
+) -> Poll<Result<&'a u64, Refused>>
+where
+    R: Wait + AllocGlobal,
+    ensures { OnPending result (IsArmed cx.new) }
+{
+    if future.is_finished() {
+        return cx.yield_now();
+    }
+    future.poll(cx)
 }
 
 /// A poll that takes over what a token has seen: if the cell is set there, it answers a value.
