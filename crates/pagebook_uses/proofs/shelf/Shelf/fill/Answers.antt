@@ -1,4 +1,4 @@
-use Rattle.std.proofs.Common.{◌≡◌, sym, ◌∙◌, ap, ◌∷◌, [], refl}
+use Rattle.std.proofs.Common.{◌≡◌, sym, ◌∙◌, ap, ◌∷◌, [], refl, rules}
 use Rattle.pagebook.specs.Pages.{rewritten}
 use Rattle.pagebook_uses.specs.Shelf.{filled}
 use Rattle.pagebook_uses.specs.declared.shelf.Stage.TheVariants.{Empty, Writing, Full, Open}
@@ -24,3 +24,6 @@ store-requires-clause-moves g c =
     let is : put.new.pens.held ≡ (0, Full) ∷ [] = then.2.0 ∙ ap (rewritten (Full ∷ [])) was in
     rw c.args.self.now.ready_is
     (comes_to put.new.seen.log put.new.pens.held Full Open 0 1 [] (sym is) refl refl)
+
+pub put-written-requires-clause-fits : goal.put-written-requires-clause-fits
+put-written-requires-clause-fits g c = search rules
