@@ -7,6 +7,10 @@
 //! - `replaying`: the record of a list of inputs, and a replay that takes them one at a time.
 //! - `judging`: what a verdict says of a record.
 //! - `rules`: the rules of a run, each with a record that breaks it or keeps it.
+//!
+//! The search finds the proofs of all but two. An answer of one tactic in `proofs` is there only so that the search
+//! ends soon where an edit in `must-fail` leaves nothing to find. It is for a goal of one name, so an edit that has
+//! branches of its own joins them before a last call.
 #![tactic(auto)]
 
 pub mod judging;
