@@ -1,80 +1,9 @@
 //! Two threads ask a table for its values: each key is fetched once.
-//!
-//! It is a model of a small program over the cells. `table` has a cell for each key, which may promise its value, and
-//! `fetch` the init of a cell. `ask` has the threads, and `fault` why a run gives up. What contracts do not say is in
-//! `tests`.
 #![tactic(auto)]
 
-ghost use Rattle.std.specs.Prelude.{◌≡◌, OnOk, OnErr};
-
-mod ask;
-mod fault;
-mod fetch;
-mod table;
-#[cfg(test)]
-mod tests;
-
-use ask::{Answer, KEYS, TURNS, ask_twice};
-use fault::Fault;
-use std::alloc::AllocGlobal;
+use memo_table::program::{run, status};
 use std::io;
-use std::io::{Eprint, Write};
 use std::process::ExitCode;
-use std::random::RandomSource;
-use std::sync::Wait;
-use std::sync::atomic::{AtomicU64, Ordering};
-use std::thread::Threads;
-use std::time::Clock;
-use table::Memo;
-
-/// Makes a table of the keys [`KEYS`], and shows it as [`show`] does.
-fn run<R, O>(rt: &R, output: &mut O) -> Result<(), Fault>
-where
-    R: Threads + Wait + RandomSource + AllocGlobal + Clock + Sync,
-    O: Write,
-{
-    let memo = Memo::new(rt.alloc(), Vec::from_array(rt.alloc(), KEYS)?)?;
-    show(rt, &memo, TURNS, output)
-}
-
-/// Has two threads ask a table for each of the keys [`KEYS`], with so many turns for each. Then it
-/// prints what they were told, and how often a key was fetched here, and flushes the writer.
-///
-/// Nothing is written before all is known. So only if a write or the flush fails may a beginning
-/// have gone out.
-fn show<R, O>(rt: &R, memo: &Memo<u64>, turns: u64, output: &mut O) -> Result<(), Fault>
-where
-    R: Threads + Wait + RandomSource + AllocGlobal + Clock + Sync,
-    O: Write,
-{
-    let fetches = AtomicU64::new(0);
-    let answers = ask_twice(rt, memo, &fetches, turns)?;
-    print_answers(output, &answers, fetches.load(Ordering::SeqCst))?;
-    Ok(())
-}
-
-/// The status that a run ends with: 0, or 1 if it gave up. Then a line on standard error says why.
-fn status<E: Eprint>(errors: &E, ended: Result<(), Fault>) -> u8
-    ensures done { OnOk ended (result ≡ 0) }
-    ensures gave_up { OnErr ended (result ≡ 1) }
-{
-    match ended {
-        Ok(()) => 0,
-        Err(fault) => {
-            let _ = errors.eprintln(fault);
-            1
-        }
-    }
-}
-
-/// Writes a line for each answer, and one for the fetches.
-fn print_answers<O: Write>(output: &mut O, answers: &[Answer], fetches: u64) -> io::Result<()> {
-    for Answer { key, value } in answers {
-        writeln!(output, "{key} {value}")?;
-    }
-    writeln!(output, "fetches {fetches}")?;
-    output.flush()
-}
 
 fn main(rt: HostRuntime) -> ExitCode {
     ExitCode::from(status(&rt, run(&rt, &mut io::writer(&rt))))

@@ -1,5 +1,5 @@
 //! Cells that promise an even value. So callers that have no token know what they are told, on any thread, and what the
-//! owner of a cell takes out of it. A promise may also speak of a key: see `table` of the program `memo`.
+//! owner of a cell takes out of it. A promise may also speak of a key: see `table` of `memo_table`.
 ghost use Rattle.std.specs.Prelude.{◌≡◌, ◌*◌, ◌^◌, ◌<◌, ℕ, true, IfOk, IfSome};
 ghost use Rattle.async_once_cell.specs.Views.{is_shared};
 
