@@ -1,6 +1,4 @@
-//! What tests share: the crate `test_doubles`, whether nobody uses a cell, and what a poll of a cell's future answered.
+//! What tests share, under one name: the crates `test_doubles` and `cell_doubles`.
 
-pub use test_doubles::{memory, schedule, target, text};
-
-pub mod left;
-pub mod poll;
+pub use cell_doubles::poll;
+pub use test_doubles::{left, memory, schedule, target, text};
