@@ -61,7 +61,7 @@ fn players_hit_in_turn(rt: HostRuntime) {
     let in_turn = pings >= 1 && (ahead == Some(0) || ahead == Some(1));
     same(
         &rt,
-        "the hits, and whether they are in turn",
+        "hits, in turn",
         (pings, pongs, in_turn),
         (pings, pongs, true),
     );
@@ -87,12 +87,8 @@ fn a_shelf_is_filled_and_both_find_the_value(rt: HostRuntime) {
     let (_token, seen) = shelf.fill(7, filler);
     front.agrees(&seen);
     let after = two_looks(&rt, &shelf, &seen);
-    same(
-        &rt,
-        "before and after",
-        (before, after),
-        ((None, None), (Some(7), Some(7))),
-    );
+    let wanted = ((None, None), (Some(7), Some(7)));
+    same(&rt, "before and after", (before, after), wanted);
 }
 
 /// A look beside a fill finds nothing or the value, and each later one finds the value.
@@ -102,10 +98,11 @@ fn a_look_beside_a_fill_finds_nothing_or_the_value(rt: HostRuntime) {
     let front = filler.seen.again();
     let beside = fill_and_look(&rt, &shelf, filler, &front, 5);
     let after = two_looks(&rt, &shelf, &front);
+    let seen = (beside.unwrap_or(5), after);
     same(
         &rt,
         "beside the fill, and after it",
-        (beside.unwrap_or(5), after),
+        seen,
         (5, (Some(5), Some(5))),
     );
 }
@@ -118,10 +115,11 @@ fn an_owner_has_the_value(rt: HostRuntime) {
     let copy = token.again();
     let value = shelf.into_value(&copy);
     let (empty, _filler) = Shelf::<u64>::new();
+    let values = (Some(value), empty.take());
     same(
         &rt,
         "the value, and that of an empty shelf",
-        (Some(value), empty.take()),
+        values,
         (Some(7), None),
     );
 }
@@ -175,23 +173,13 @@ fn a_lock_keeps_its_book_and_shows_its_content(rt: HostRuntime) -> Result<(), Fa
         |tally: Tally, more: u64| -> (Tally, u64)
             ensures { result.0.number ≡ tally.number }
         {
-            let sum = tally.sum.wrapping_add(more);
-            (
-                Tally {
-                    number: tally.number,
-                    sum,
-                },
-                sum,
-            )
+            let (number, sum) = (tally.number, tally.sum.wrapping_add(more));
+            (Tally { number, sum }, sum)
         },
     );
     let last = lock.into_inner();
-    same(
-        &rt,
-        "the numbers and sums",
-        [numbers.0, numbers.1, sum, last.number, last.sum],
-        [7, 7, 12, 7, 12],
-    );
+    let found = [numbers.0, numbers.1, sum, last.number, last.sum];
+    same(&rt, "the numbers and sums", found, [7, 7, 12, 7, 12]);
     let shown = "KeyedMutex { data: Tally { number: 7, sum: 7 }, .. }";
     same_text(&rt, "free", free.as_str(), shown);
     let locked = "KeyedMutex { data: \"<locked>\", .. }";

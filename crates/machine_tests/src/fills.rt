@@ -1,12 +1,12 @@
 //! A fill asks for no memory, also if the list could not note where a listing was put.
 
-use crate::doubles::memory::hoard;
 use crate::same::same;
 use once_machine::step::Out;
 use once_machine::waiters::{Answer, Lists};
 use once_machine::word::NEW;
 use std::alloc::{AllocError, Global};
 use std::test::Fail;
+use test_doubles::memory::hoard;
 
 // How many bytes the list would ask for to note a fifth place.
 const NOTES: usize = 64;
@@ -20,15 +20,11 @@ fn list(lists: &mut Lists<u64>, mut ticket: Option<u64>, waker: u64) -> bool {
 // eight, and for four notes.
 fn crowd(alloc: Global) -> Lists<u64> {
     let mut lists = Lists::new(alloc);
-    for (ticket, waker) in [
-        (None, 0),
-        (None, 1),
-        (None, 2),
-        (None, 3),
-        (None, 4),
-        (Some(0), 5),
-    ] {
-        list(&mut lists, ticket, waker);
+    for (waker, ticket) in [None, None, None, None, None, Some(0)]
+        .into_iter()
+        .enumerate()
+    {
+        list(&mut lists, ticket, waker as u64);
     }
     lists
 }
@@ -68,7 +64,7 @@ fn a_fill_asks_for_no_memory(rt: HostRuntime) -> Result<(), Fail> {
     let wanted = [[true, true, false], [true, true, true]];
     same(
         &rt,
-        "without memory, and with as much as a note would take",
+        "without memory, and with as much as a note takes",
         seen,
         wanted,
     );

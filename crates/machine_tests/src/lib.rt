@@ -2,8 +2,8 @@
 //!
 //! `book_uses` runs the uses of `pagebook`. `fills` and `room` have what the list of those that wait takes of memory.
 //! `parts` has the parts of a cell alone, by hand; `scenes` has tasks over them step by step, and `calls` by whole
-//! calls. Both are scenes (`plays`) of tasks whose sides (`side`) poll inits (`poller`) and have wakers (`bell`) of
-//! their own. `doubles` is for the tests of cells and of pictures too.
+//! calls. Both are texts that `scene` plays, of tasks whose sides (`side`) poll inits (`poller`) and have wakers
+//! (`bell`) of their own.
 #![tactic(auto)]
 
 #[cfg(test)]
@@ -18,13 +18,13 @@ mod fills;
 #[cfg(test)]
 mod parts;
 #[cfg(test)]
-mod plays;
-#[cfg(test)]
 mod poller;
 #[cfg(test)]
 mod room;
 #[cfg(test)]
 mod same;
+#[cfg(test)]
+mod scene;
 #[cfg(test)]
 mod scenes;
 #[cfg(test)]

@@ -81,10 +81,11 @@ fn what_is_ghost_has_no_bytes(rt: HostRuntime) {
         size_of::<Task<u64, Bell, HostRuntime>>(),
         size_of::<Step<Bell, ()>>(),
     ];
+    let wanted = [0, 32, 16, 16 + idle, 40];
     same(
         &rt,
         "a mark, parts, two references, a task, a step",
         sizes,
-        [0, 32, 16, 16 + idle, 40],
+        wanted,
     );
 }

@@ -1,6 +1,5 @@
 //! How much memory a list takes whose listings come and go: no more than for four times as many as ever wait at once.
 
-use crate::doubles::memory::hoard;
 use crate::same::same;
 use once_machine::waiters::{Answer, Lists};
 use once_machine::word::{NEW, QINIT_BIT};
@@ -8,6 +7,7 @@ use rand_core::{Rng, SeedableRng};
 use rand_xoshiro::Xoshiro256PlusPlus;
 use std::alloc::{AllocError, Global};
 use std::test::Fail;
+use test_doubles::memory::hoard;
 
 // How many tasks there are that wait or do not.
 const TASKS: u64 = 20;
@@ -108,12 +108,8 @@ fn a_list_takes_no_more_room_while_waiters_come_and_go(rt: HostRuntime) -> Resul
     for seed in 0..3 {
         let without = comes_and_goes(rt.alloc(), seed, false)?;
         let beside = comes_and_goes(rt.alloc(), seed, true)?;
-        same(
-            &rt,
-            "of a seed",
-            (seed, without, beside),
-            (seed, [true, false], [true, true]),
-        );
+        let wanted = (seed, [true, false], [true, true]);
+        same(&rt, "of a seed", (seed, without, beside), wanted);
     }
     Ok(())
 }

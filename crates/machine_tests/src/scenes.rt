@@ -2,6 +2,5 @@
 
 mod gated;
 mod rows;
-mod scene;
 mod stranded;
-mod walker;
+pub mod walker;

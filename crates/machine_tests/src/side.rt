@@ -27,10 +27,32 @@ pub enum Note {
     WokeAll(Vec<(u64, Option<u64>)>),
 }
 
-/// The side of a task, which notes its calls but for `keep` and `renew`. The value that it gives is the name of its
-/// task. A clause sees what is told of it.
+/// What a side does to another task.
+#[derive(Clone, Copy)]
+pub enum Act {
+    Nothing,
+    Poll,
+    Leave,
+}
+
+/// Another task of the cell, which a side uses in the middle of a step of its own.
+pub trait Other: Drop {
+    /// Does this, if the task is not finished.
+    fn obey(&mut self, act: Act);
+}
+
+/// No other task.
 #[derive(Drop)]
-pub struct TestSide {
+pub struct Nobody;
+
+impl Other for Nobody {
+    fn obey(&mut self, _act: Act) {}
+}
+
+/// The side of a task, which notes its calls but for `keep` and `renew`, and may use another task meanwhile. The value
+/// that it gives is the name of its task. A clause sees what is told of it.
+#[derive(Drop)]
+pub struct TestSide<O: Other = Nobody> {
     mark: Mark,
     /// The name of its task, which its waker has too.
     pub name: u64,
@@ -50,9 +72,14 @@ pub struct TestSide {
     has_shown: bool,
     // Whom the call under way woke.
     woke: Snapshot<Out<Bell>>,
+    /// The other task.
+    pub other: O,
+    // What it does when its init is polled and when it wakes others, and what when its waker is copied.
+    at_run: Act,
+    at_copy: Act,
 }
 
-impl Model for TestSide {
+impl<O: Other> Model for TestSide<O> {
     ghost use Rattle.std.specs.Option.{is_some};
     ghost use Rattle.async_once_cell.specs.Inner.Named.{named_out};
     ghost use Rattle.async_once_cell.specs.Inner.Sides.{Sided};
@@ -76,6 +103,17 @@ impl TestSide {
         R: AllocGlobal + RandomSource,
         ensures { IfOk result (λ s. (s.number ≡ mark) × IsReady s) }
     {
+        TestSide::over(rt, name, mark, answer, Nobody)
+    }
+}
+
+impl<O: Other> TestSide<O> {
+    /// The same over another task, which it leaves alone at first.
+    pub fn over<R>(rt: &R, name: u64, mark: Mark, answer: Polled, other: O) -> io::Result<Self>
+    where
+        R: AllocGlobal + RandomSource,
+        ensures { IfOk result (λ s. (s.number ≡ mark) × IsReady s) }
+    {
         Ok(TestSide {
             mark,
             name,
@@ -89,6 +127,9 @@ impl TestSide {
             has_error: false,
             has_shown: false,
             woke: Snapshot::of(&Out::One(None)),
+            other,
+            at_run: Act::Nothing,
+            at_copy: Act::Nothing,
         })
     }
 
@@ -110,6 +151,15 @@ impl TestSide {
         self.is_granted = is_granted;
     }
 
+    /// From now on it does the first to the other task when its init is polled and when it wakes others, and the second
+    /// when its waker is copied.
+    pub fn meddles(&mut self, at_run: Act, at_copy: Act)
+        ensures { self.new ≡ self.old }
+    {
+        self.at_run = at_run;
+        self.at_copy = at_copy;
+    }
+
     /// What was noted since this was last asked; `None` says that a note was lost.
     pub fn take(&mut self) -> Option<Vec<Note>>
         ensures { self.new ≡ self.old }
@@ -126,7 +176,7 @@ impl TestSide {
     }
 }
 
-impl Side<Bell> for TestSide {
+impl<O: Other> Side<Bell> for TestSide<O> {
     ghost use Rattle.std.specs.Prelude.{true};
     ghost use Rattle.async_once_cell.specs.Inner.Sides.{HasWoken, sided_tells};
 
@@ -145,6 +195,7 @@ impl Side<Bell> for TestSide {
     ghost stays_on = { λ a b c p q. Prim.search rules };
 
     fn run(&mut self, right: &mut Hand) -> Polled {
+        self.other.obey(self.at_run);
         self.polls = self.polls.saturating_add(1);
         let polled = self.poller.poll(&mut self.init, right);
         self.note(Note::Ran(polled));
@@ -168,6 +219,7 @@ impl Side<Bell> for TestSide {
     }
 
     fn copy(&mut self) -> Option<Bell> {
+        self.other.obey(self.at_copy);
         if !self.is_granted {
             self.note(Note::Copied(None));
             return None;
@@ -188,10 +240,11 @@ impl Side<Bell> for TestSide {
                 Err(_) => self.is_short = true,
             },
         }
+        self.other.obey(self.at_run);
     }
 }
 
-impl Renews<Bell> for TestSide {
+impl<O: Other> Renews<Bell> for TestSide<O> {
     ghost renewed = { λ s v t w. (t ≡ s) × (w ≡ v) };
 
     // A task has one bell, which stays.
@@ -200,7 +253,7 @@ impl Renews<Bell> for TestSide {
     }
 }
 
-impl TaskSide<Bell> for TestSide {
+impl<O: Other> TaskSide<Bell> for TestSide<O> {
     ghost use Rattle.std.proofs.Common.{ap};
     ghost use Rattle.async_once_cell.proofs.Sides.{sided_told};
 

@@ -47,13 +47,17 @@ fn all_taken(alloc: Global, mut held: Vec<Vec<u8>>, most: usize) -> Vec<Vec<u8>>
 // Takes blocks of this size until one is refused.
 fn take_all(alloc: Global, held: &mut Vec<Vec<u8>>, size: usize) {
     for _ in 0..60_000 {
-        let Ok(block) = Vec::with_capacity(alloc, size) else {
-            return;
-        };
-        if held.push(block).is_err() {
+        if take(alloc, held, size).is_err() {
             return;
         }
     }
+}
+
+// Takes a block of this size.
+fn take(alloc: Global, held: &mut Vec<Vec<u8>>, size: usize) -> Result<(), AllocError> {
+    let block = Vec::with_capacity(alloc, size)?;
+    held.push(block)?;
+    Ok(())
 }
 
 // Gives the block in this place back.
@@ -114,6 +118,19 @@ pub struct Held {
     granted: [usize; KINDS],
 }
 
+impl Held {
+    // How many requests of each kind were granted. What is left of them is taken.
+    fn used(&mut self, alloc: Global) -> [usize; KINDS] {
+        let mut used = self.granted;
+        for (kind, used) in used.iter_mut().enumerate() {
+            let before = self.blocks.len();
+            take_all(alloc, &mut self.blocks, size_of_kind(kind));
+            *used = used.saturating_sub(self.blocks.len().saturating_sub(before));
+        }
+        used
+    }
+}
+
 impl Rations {
     /// All requests are granted, and noted.
     pub fn noting(alloc: Global) -> Rations {
@@ -147,16 +164,12 @@ impl Rations {
 
     /// Begins an act. What is held back then is given back at its end.
     pub fn begin(&mut self) -> Result<Option<Held>, AllocError> {
-        if let Some(request) = self.refused {
-            if request.act != self.acts {
-                return Ok(None);
-            }
+        match self.refused {
+            Some(request) if request.act != self.acts => return Ok(None),
+            _ => {}
         }
         let mut blocks = self.plenty()?;
         let rest = rest_taken(self.alloc)?;
-        for place in 0..KINDS * PLENTY {
-            give_back(self.alloc, &mut blocks, place);
-        }
         blocks.clear();
         let granted = self.grant(&mut blocks);
         Ok(Some(Held {
@@ -170,7 +183,7 @@ impl Rations {
     fn plenty(&self) -> Result<Vec<Vec<u8>>, AllocError> {
         let mut blocks = Vec::with_capacity(self.alloc, 3 * KINDS * PLENTY)?;
         for place in 0..KINDS * PLENTY {
-            blocks.push(Vec::with_capacity(self.alloc, size_of_kind(place / PLENTY))?)?;
+            take(self.alloc, &mut blocks, size_of_kind(place / PLENTY))?;
         }
         Ok(blocks)
     }
@@ -203,26 +216,22 @@ impl Rations {
     pub fn end(&mut self, held: Option<Held>) -> Result<(), AllocError> {
         let act = self.acts;
         self.acts = act.saturating_add(1);
-        let Some(held) = held else {
+        let Some(mut held) = held else {
             return Ok(());
         };
-        let Held {
-            rest,
-            mut blocks,
-            granted: mut used,
-        } = held;
-        for (kind, used) in used.iter_mut().enumerate() {
-            let before = blocks.len();
-            take_all(self.alloc, &mut blocks, size_of_kind(kind));
-            *used = used.saturating_sub(blocks.len().saturating_sub(before));
+        let used = held.used(self.alloc);
+        drop(held);
+        match self.refused {
+            None => self.note(act, used),
+            Some(_) => Ok(()),
         }
-        drop(blocks);
-        drop(rest);
-        if self.refused.is_none() {
-            for (kind, used) in used.iter().enumerate() {
-                for before in 0..*used {
-                    self.requests.push(Request { act, kind, before })?;
-                }
+    }
+
+    // Notes the requests of an act, of which there were so many of each kind.
+    fn note(&mut self, act: usize, used: [usize; KINDS]) -> Result<(), AllocError> {
+        for (kind, used) in used.into_iter().enumerate() {
+            for before in 0..used {
+                self.requests.push(Request { act, kind, before })?;
             }
         }
         Ok(())

@@ -9,30 +9,25 @@ use std::alloc::{AllocError, Global};
 use std::fmt;
 use std::test::Fail;
 
-/// A schedule of a text.
-#[derive(Drop)]
+/// A schedule of a text, with its lines.
+#[derive(Clone, Copy)]
 pub struct Schedule<'a> {
     name: &'a str,
-    pub lines: Vec<Line<'a>>,
+    pub text: &'a str,
 }
 
 /// A line of a script, and what it leads to.
 #[derive(Clone, Copy)]
-pub struct Line<'a> {
+pub struct Row<'a> {
     pub order: &'a str,
     pub added: &'a str,
 }
 
-// What is wanted if a schedule has no line.
-const NO_LINE: Line<'static> = Line {
-    order: "",
-    added: "",
-};
-
-impl<'a> Line<'a> {
-    fn read(text: &'a str) -> Self {
+impl<'a> Row<'a> {
+    /// What a line of a schedule says.
+    pub fn read(text: &'a str) -> Self {
         let (order, added) = text.split_once("=>").unwrap_or((text, ""));
-        Line {
+        Row {
             order: order.trim_end(),
             added: added.trim(),
         }
@@ -50,22 +45,18 @@ impl fmt::Display for Schedule<'_> {
 pub fn schedules_in(alloc: Global, text: &str) -> Result<Vec<Schedule<'_>>, Fail> {
     let mut schedules = Vec::new(alloc);
     for part in text.split("\n\n") {
-        schedules.push(read(alloc, part)?)?;
+        schedules.push(read(part)?)?;
     }
     Ok(schedules)
 }
 
-fn read(alloc: Global, part: &str) -> Result<Schedule<'_>, Fail> {
+fn read(part: &str) -> Result<Schedule<'_>, Fail> {
     let (head, text) = part.split_once('\n').unwrap_or((part, ""));
     let named = head.strip_prefix("# ").unwrap_or("");
-    let Some((name, _)) = named.split_once(": ") else {
-        return Err(Fail::new(format_args!("no schedule begins so: {head}")));
-    };
-    let mut lines = Vec::new(alloc);
-    for line in text.lines() {
-        lines.push(Line::read(line))?;
+    match named.split_once(": ") {
+        Some((name, _)) => Ok(Schedule { name, text }),
+        None => Err(Fail::new(format_args!("no schedule begins so: {head}"))),
     }
-    Ok(Schedule { name, lines })
 }
 
 // The text in this place, or none.
@@ -76,66 +67,40 @@ fn text_at(texts: &[String], place: usize) -> &str {
     }
 }
 
-// Adds a line to a text.
-fn add_line(text: &mut String, line: &str) -> Result<(), AllocError> {
-    text.push_str(line)?;
-    text.push('\n')
-}
-
 impl Schedule<'_> {
     /// The script alone.
     pub fn script(&self, alloc: Global) -> Result<String, AllocError> {
         let mut script = String::new(alloc);
-        for line in &self.lines {
-            if !line.order.is_empty() {
-                add_line(&mut script, line.order)?;
+        for line in self.text.lines() {
+            let order = Row::read(line).order;
+            if !order.is_empty() {
+                script.push_str(order)?;
+                script.push('\n')?;
             }
         }
         Ok(script)
     }
 
-    /// All that the lines lead to, an entry a line.
-    pub fn record(&self, alloc: Global) -> Result<String, AllocError> {
-        let mut record = String::new(alloc);
-        for line in &self.lines {
-            for entry in line.added.split(", ") {
-                if !entry.is_empty() {
-                    add_line(&mut record, entry)?;
-                }
-            }
-        }
-        Ok(record)
-    }
-
-    /// Says of the first line that led to something else than stands beside it what was wanted and what came.
-    pub fn difference(&self, alloc: Global, came: &[String]) -> Result<Option<String>, AllocError> {
-        for place in 0..came.len().max(self.lines.len()) {
-            let line = self.lines.get(place).copied().unwrap_or(NO_LINE);
+    /// Fails if a line led to something else than stands beside it, and says of the first what was wanted and what
+    /// came.
+    pub fn check(&self, came: &[String]) -> Result<(), Fail> {
+        let mut lines = self.text.lines();
+        for place in 0..came.len().max(self.text.lines().count()) {
+            // What is wanted is nothing if the schedule has no line there.
+            let row = Row::read(lines.next().unwrap_or(""));
             let came = text_at(came, place);
-            if line.added != came {
-                return Ok(Some(self.told(alloc, place, line, came)?));
+            if row.added != came {
+                return Err(self.difference(place, row, came));
             }
         }
-        Ok(None)
+        Ok(())
     }
 
-    // What was wanted of the line in this place, and what came.
-    fn told(
-        &self,
-        alloc: Global,
-        place: usize,
-        line: Line<'_>,
-        came: &str,
-    ) -> Result<String, AllocError> {
-        let (number, Line { order, added }) = (place.saturating_add(1), line);
-        format!(in alloc; "in {self}, line {number} {order:?}: wanted {added:?}, and came {came:?}")
-    }
-
-    /// Fails with what that says, if a line led to something else.
-    pub fn check(&self, alloc: Global, came: &[String]) -> Result<(), Fail> {
-        match self.difference(alloc, came)? {
-            None => Ok(()),
-            Some(difference) => Err(Fail::new(difference)),
-        }
+    /// What was wanted of the line in this place, and what came.
+    pub fn difference(&self, place: usize, row: Row<'_>, came: &str) -> Fail {
+        let (number, Row { order, added }) = (place.saturating_add(1), row);
+        Fail::new(format_args!(
+            "in {self}, line {number} {order:?}: wanted {added:?}, and came {came:?}"
+        ))
     }
 }

@@ -107,7 +107,7 @@ fn logs(rt: HostRuntime) -> Result<(), Fail> {
     let alloc = rt.alloc();
     for schedule in &schedules_in(alloc, LOGS)? {
         let script = schedule.script(alloc)?;
-        schedule.check(alloc, &added_by(alloc, script.as_str())?)?;
+        schedule.check(&added_by(alloc, script.as_str())?)?;
     }
     Ok(())
 }

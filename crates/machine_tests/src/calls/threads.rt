@@ -88,11 +88,7 @@ fn alike(here: &[Got], there: &[Got]) -> u64 {
 fn two_threads_get_one_value_of_each_cell(rt: HostRuntime) -> Result<(), Fail> {
     let cells = cells(rt.alloc())?;
     let (here, there) = thread::join(&rt, || visits(&rt, &cells, 1), || visits(&rt, &cells, 2));
-    same(
-        &rt,
-        "the cells of which both got one value",
-        alike(&here?, &there?),
-        CELLS,
-    );
+    let alike = alike(&here?, &there?);
+    same(&rt, "the cells of which both got one value", alike, CELLS);
     Ok(())
 }

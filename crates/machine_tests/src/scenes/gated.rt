@@ -1,26 +1,21 @@
 //! A copy of a waker is refused: a task that would wait is then refused too, and is neither counted nor listed. A
 //! holder copies none.
 
-use super::scene::play;
+use crate::scene::play;
 use std::test::Fail;
 
 // If the copy is refused the waiter is gone, and the holder finds nobody. Else the holder wakes it.
 const WAITERS: &str = "\
 # refused_waiter: it is gone, and the holder finds nobody
-make 1; make 2
-poll 1 1; run 1 p
-poll 2 2; run 2 p x => Some(Memory) [Copied(None), Closed] finished
+make 1; make 2; poll 1 1; run 1 p; poll 2 2; run 2 p x => Some(Memory) [Copied(None), Closed] finished
 show => Inner { ready: false, quick_init: true, refcount: 0, queue: true }
 poll 1 1; run 1 v4 x => Some(Value) [Ran(Value), Closed, Put] finished
 show => Inner { ready: true, quick_init: false, refcount: 0, queue: false }
 
 # granted_waiter: it waits, and the holder calls it
-make 1; make 2
-poll 1 1; run 1 p
-poll 2 2; run 2 p => Some(Pending) [Copied(Some(2))] rests
+make 1; make 2; poll 1 1; run 1 p; poll 2 2; run 2 p => Some(Pending) [Copied(Some(2))] rests
 show => Inner { ready: false, quick_init: true, refcount: 1, queue: true }
-poll 1 1
-run 1 v4 x => Some(Value) [Ran(Value), Closed, Put, WokeAll([(0, Some(2))])] finished
+poll 1 1; run 1 v4 x => Some(Value) [Ran(Value), Closed, Put, WokeAll([(0, Some(2))])] finished
 show => Inner { ready: true, quick_init: false, refcount: 1, queue: true }
 ";
 
@@ -32,50 +27,40 @@ fn a_waiter_whose_copy_is_refused(rt: HostRuntime) -> Result<(), Fail> {
 // A holder by the quick claim, alone or with a waiter, that gives a value, fails or is dropped.
 const QUICK_HOLDERS: &str = "\
 # quick_value_alone: a quick holder gives a value, and nobody waits
-make 1
-poll 1 1; run 1 p x => Some(Pending) [Ran(Pending)] rests
+make 1; poll 1 1; run 1 p x => Some(Pending) [Ran(Pending)] rests
 show => Inner { ready: false, quick_init: true, refcount: 0, queue: false }
 poll 1 1; run 1 v4 x => Some(Value) [Ran(Value), Closed, Put] finished
 show => Inner { ready: true, quick_init: false, refcount: 0, queue: false }
 
 # quick_error_alone: a quick holder fails, and nobody waits
-make 1
-poll 1 1; run 1 p x => Some(Pending) [Ran(Pending)] rests
+make 1; poll 1 1; run 1 p x => Some(Pending) [Ran(Pending)] rests
 show => Inner { ready: false, quick_init: true, refcount: 0, queue: false }
 poll 1 1; run 1 e9 x => Some(Error) [Ran(Error), Closed] finished
 show => Inner { ready: false, quick_init: false, refcount: 0, queue: false }
 
 # quick_drop_alone: a quick holder is dropped, and nobody waits
-make 1
-poll 1 1; run 1 p x => Some(Pending) [Ran(Pending)] rests
+make 1; poll 1 1; run 1 p x => Some(Pending) [Ran(Pending)] rests
 show => Inner { ready: false, quick_init: true, refcount: 0, queue: false }
 drop 1 => None [Closed] goes on
 run 1 p x => Some(Dropped) [] finished
 show => Inner { ready: false, quick_init: false, refcount: 0, queue: false }
 
 # quick_value: a quick holder gives a value, and calls the one who waits
-make 1; make 2
-poll 1 1; run 1 p x => Some(Pending) [Ran(Pending)] rests
+make 1; make 2; poll 1 1; run 1 p x => Some(Pending) [Ran(Pending)] rests
 show => Inner { ready: false, quick_init: true, refcount: 0, queue: false }
-poll 2 2; run 2 p
-poll 1 1
-run 1 v4 x => Some(Value) [Ran(Value), Closed, Put, WokeAll([(0, Some(2))])] finished
+poll 2 2; run 2 p; poll 1 1; run 1 v4 x => Some(Value) [Ran(Value), Closed, Put, WokeAll([(0, Some(2))])] finished
 show => Inner { ready: true, quick_init: false, refcount: 1, queue: true }
 
 # quick_error: a quick holder fails, and calls the one who waits
-make 1; make 2
-poll 1 1; run 1 p x => Some(Pending) [Ran(Pending)] rests
+make 1; make 2; poll 1 1; run 1 p x => Some(Pending) [Ran(Pending)] rests
 show => Inner { ready: false, quick_init: true, refcount: 0, queue: false }
-poll 2 2; run 2 p
-poll 1 1; run 1 e9 x => Some(Error) [Ran(Error), Closed, WokeOne(Some(2))] finished
+poll 2 2; run 2 p; poll 1 1; run 1 e9 x => Some(Error) [Ran(Error), Closed, WokeOne(Some(2))] finished
 show => Inner { ready: false, quick_init: false, refcount: 1, queue: true }
 
 # quick_drop: a quick holder is dropped, and calls the one who waits
-make 1; make 2
-poll 1 1; run 1 p x => Some(Pending) [Ran(Pending)] rests
+make 1; make 2; poll 1 1; run 1 p x => Some(Pending) [Ran(Pending)] rests
 show => Inner { ready: false, quick_init: true, refcount: 0, queue: false }
-poll 2 2; run 2 p
-drop 1 => None [Closed] goes on
+poll 2 2; run 2 p; drop 1 => None [Closed] goes on
 run 1 p x => Some(Dropped) [WokeOne(Some(2))] finished
 show => Inner { ready: false, quick_init: false, refcount: 1, queue: true }
 ";
@@ -89,31 +74,22 @@ fn a_quick_holder_copies_no_waker(rt: HostRuntime) -> Result<(), Fail> {
 // a value, fails or is dropped.
 const LATER_HOLDERS: &str = "\
 # later_value: a later holder gives a value, and calls the one who waits
-make 1; make 2; make 3
-poll 1 1; run 1 p
-poll 2 2; run 2 p
-drop 1; run 1 p x
+make 1; make 2; make 3; poll 1 1; run 1 p; poll 2 2; run 2 p; drop 1; run 1 p x
 poll 2 2; run 2 p x => Some(Pending) [Ran(Pending)] rests
 show => Inner { ready: false, quick_init: false, refcount: 1, queue: true }
-poll 3 3; run 3 p
-poll 3 3; run 3 p x => Some(Pending) [] rests
+poll 3 3; run 3 p; poll 3 3; run 3 p x => Some(Pending) [] rests
 show => Inner { ready: false, quick_init: false, refcount: 2, queue: true }
-poll 2 2
-run 2 v4 x => Some(Value) [Ran(Value), Closed, Put, WokeAll([(0, Some(3))])] finished
+poll 2 2; run 2 v4 x => Some(Value) [Ran(Value), Closed, Put, WokeAll([(0, Some(3))])] finished
 show => Inner { ready: true, quick_init: false, refcount: 1, queue: true }
 drop 3 => None [Closed] goes on
 run 3 p x => Some(Dropped) [WokeOne(None)] finished
 show => Inner { ready: true, quick_init: false, refcount: 0, queue: false }
 
 # later_error: a later holder fails, and calls the one who waits
-make 1; make 2; make 3
-poll 1 1; run 1 p
-poll 2 2; run 2 p
-drop 1; run 1 p x
+make 1; make 2; make 3; poll 1 1; run 1 p; poll 2 2; run 2 p; drop 1; run 1 p x
 poll 2 2; run 2 p x => Some(Pending) [Ran(Pending)] rests
 show => Inner { ready: false, quick_init: false, refcount: 1, queue: true }
-poll 3 3; run 3 p
-poll 3 3; run 3 p x => Some(Pending) [] rests
+poll 3 3; run 3 p; poll 3 3; run 3 p x => Some(Pending) [] rests
 show => Inner { ready: false, quick_init: false, refcount: 2, queue: true }
 poll 2 2; run 2 e9 x => Some(Error) [Ran(Error), Closed, WokeOne(Some(3))] finished
 show => Inner { ready: false, quick_init: false, refcount: 1, queue: true }
@@ -122,14 +98,10 @@ run 3 p x => Some(Dropped) [WokeOne(None)] finished
 show => Inner { ready: false, quick_init: false, refcount: 0, queue: true }
 
 # later_drop: a later holder is dropped, and calls the one who waits
-make 1; make 2; make 3
-poll 1 1; run 1 p
-poll 2 2; run 2 p
-drop 1; run 1 p x
+make 1; make 2; make 3; poll 1 1; run 1 p; poll 2 2; run 2 p; drop 1; run 1 p x
 poll 2 2; run 2 p x => Some(Pending) [Ran(Pending)] rests
 show => Inner { ready: false, quick_init: false, refcount: 1, queue: true }
-poll 3 3; run 3 p
-poll 3 3; run 3 p x => Some(Pending) [] rests
+poll 3 3; run 3 p; poll 3 3; run 3 p x => Some(Pending) [] rests
 show => Inner { ready: false, quick_init: false, refcount: 2, queue: true }
 drop 2 => None [Closed] goes on
 run 2 p x => Some(Dropped) [WokeOne(Some(3))] finished

@@ -1,18 +1,15 @@
 //! A waiter whose copy is refused, or that is dropped, while another waits behind it: if it has the turn, it passes
 //! it on, and nobody is stranded. In each scene the third task fills the cell in the end.
 
-use super::scene::play;
+use crate::scene::play;
 use std::test::Fail;
 
 // A waiter that has no turn: the one behind it is woken by the failure.
 const BEFORE: &str = "\
 # refused_before_it_was_listed: the second is refused and gone, and the first calls the third
-make 1; make 2; make 3
-poll 1 1; run 1 p
-poll 2 2; run 2 p x => Some(Memory) [Copied(None), Closed] finished
+make 1; make 2; make 3; poll 1 1; run 1 p; poll 2 2; run 2 p x => Some(Memory) [Copied(None), Closed] finished
 show => Inner { ready: false, quick_init: true, refcount: 0, queue: true }
-poll 3 3; run 3 p
-poll 1 1; run 1 e9 x => Some(Error) [Ran(Error), Closed, WokeOne(Some(3))] finished
+poll 3 3; run 3 p; poll 1 1; run 1 e9 x => Some(Error) [Ran(Error), Closed, WokeOne(Some(3))] finished
 show => Inner { ready: false, quick_init: false, refcount: 1, queue: true }
 poll 3 3; run 3 v4 x => Some(Value) [Ran(Value), Closed, Put, WokeAll([])] finished
 show => Inner { ready: true, quick_init: false, refcount: 0, queue: false }
@@ -26,10 +23,7 @@ fn refused_before_it_was_listed(rt: HostRuntime) -> Result<(), Fail> {
 // The same if the one behind it is listed while the poll that is refused is under way.
 const BESIDE: &str = "\
 # refused_beside_one_who_waits_1: the third is listed while the poll of the second is under way
-make 1; make 2; make 3
-poll 1 1; run 1 p
-poll 2 2; go 2 p
-poll 3 3; run 3 p
+make 1; make 2; make 3; poll 1 1; run 1 p; poll 2 2; go 2 p; poll 3 3; run 3 p
 run 2 p x => Some(Memory) [Copied(None), Closed] finished
 show => Inner { ready: false, quick_init: true, refcount: 1, queue: true }
 poll 1 1; run 1 e9 x => Some(Error) [Ran(Error), Closed, WokeOne(Some(3))] finished
@@ -38,10 +32,7 @@ poll 3 3; run 3 v4 x => Some(Value) [Ran(Value), Closed, Put, WokeAll([])] finis
 show => Inner { ready: true, quick_init: false, refcount: 0, queue: false }
 
 # refused_beside_one_who_waits_2: the third is listed while the poll of the second is under way
-make 1; make 2; make 3
-poll 1 1; run 1 p
-poll 2 2; go 2 p; go 2 p
-poll 3 3; run 3 p
+make 1; make 2; make 3; poll 1 1; run 1 p; poll 2 2; go 2 p; go 2 p; poll 3 3; run 3 p
 run 2 p x => Some(Memory) [Copied(None), Closed] finished
 show => Inner { ready: false, quick_init: true, refcount: 1, queue: true }
 poll 1 1; run 1 e9 x => Some(Error) [Ran(Error), Closed, WokeOne(Some(3))] finished
@@ -50,10 +41,7 @@ poll 3 3; run 3 v4 x => Some(Value) [Ran(Value), Closed, Put, WokeAll([])] finis
 show => Inner { ready: true, quick_init: false, refcount: 0, queue: false }
 
 # refused_beside_one_who_waits_3: the third is listed while the poll of the second is under way
-make 1; make 2; make 3
-poll 1 1; run 1 p
-poll 2 2; go 2 p; go 2 p; go 2 p
-poll 3 3; run 3 p
+make 1; make 2; make 3; poll 1 1; run 1 p; poll 2 2; go 2 p; go 2 p; go 2 p; poll 3 3; run 3 p
 run 2 p x => Some(Memory) [Copied(None), Closed] finished
 show => Inner { ready: false, quick_init: true, refcount: 1, queue: true }
 poll 1 1; run 1 e9 x => Some(Error) [Ran(Error), Closed, WokeOne(Some(3))] finished
@@ -62,10 +50,7 @@ poll 3 3; run 3 v4 x => Some(Value) [Ran(Value), Closed, Put, WokeAll([])] finis
 show => Inner { ready: true, quick_init: false, refcount: 0, queue: false }
 
 # refused_beside_one_who_waits_4: the third is listed while the poll of the second is under way
-make 1; make 2; make 3
-poll 1 1; run 1 p
-poll 2 2; go 2 p; go 2 p; go 2 p; go 2 p
-poll 3 3; run 3 p
+make 1; make 2; make 3; poll 1 1; run 1 p; poll 2 2; go 2 p; go 2 p; go 2 p; go 2 p; poll 3 3; run 3 p
 run 2 p x => Some(Memory) [Copied(None), Closed] finished
 show => Inner { ready: false, quick_init: true, refcount: 1, queue: true }
 poll 1 1; run 1 e9 x => Some(Error) [Ran(Error), Closed, WokeOne(Some(3))] finished
@@ -74,10 +59,7 @@ poll 3 3; run 3 v4 x => Some(Value) [Ran(Value), Closed, Put, WokeAll([])] finis
 show => Inner { ready: true, quick_init: false, refcount: 0, queue: false }
 
 # refused_beside_one_who_waits_5: the third is listed while the poll of the second is under way
-make 1; make 2; make 3
-poll 1 1; run 1 p
-poll 2 2; go 2 p; go 2 p; go 2 p; go 2 p; go 2 p
-poll 3 3; run 3 p
+make 1; make 2; make 3; poll 1 1; run 1 p; poll 2 2; go 2 p; go 2 p; go 2 p; go 2 p; go 2 p; poll 3 3; run 3 p
 run 2 p x => Some(Memory) [Copied(None), Closed] finished
 show => Inner { ready: false, quick_init: true, refcount: 1, queue: true }
 poll 1 1; run 1 e9 x => Some(Error) [Ran(Error), Closed, WokeOne(Some(3))] finished
@@ -97,14 +79,8 @@ fn refused_beside_one_who_waits(rt: HostRuntime) -> Result<(), Fail> {
 // if it left before, the turn is the third's alone.
 const CALLED: &str = "\
 # fails_before_a_refusal_0: the second finds that nobody holds, gets the right, and is dropped
-make 1; make 2; make 3; make 4; make 5
-poll 1 1; run 1 p
-poll 2 2; run 2 p
-poll 3 3; run 3 p
-poll 4 4; run 4 p
-poll 1 1; run 1 e9
-poll 5 5; run 5 p
-poll 2 2
+make 1; make 2; make 3; make 4; make 5; poll 1 1; run 1 p; poll 2 2; run 2 p; poll 3 3; run 3 p; poll 4 4; run 4 p
+poll 1 1; run 1 e9; poll 5 5; run 5 p; poll 2 2
 poll 5 5; run 5 e9 x => Some(Error) [Ran(Error), Closed, WokeOne(Some(3))] finished
 show => Inner { ready: false, quick_init: false, refcount: 3, queue: true }
 run 2 p x => Some(Pending) [Ran(Pending)] rests
@@ -116,14 +92,8 @@ poll 3 3; run 3 v4 x => Some(Value) [Ran(Value), Closed, Put, WokeAll([(2, None)
 show => Inner { ready: true, quick_init: false, refcount: 1, queue: true }
 
 # fails_before_a_refusal_1: the second finds that nobody holds, gets the right, and is dropped
-make 1; make 2; make 3; make 4; make 5
-poll 1 1; run 1 p
-poll 2 2; run 2 p
-poll 3 3; run 3 p
-poll 4 4; run 4 p
-poll 1 1; run 1 e9
-poll 5 5; run 5 p
-poll 2 2; go 2 p x
+make 1; make 2; make 3; make 4; make 5; poll 1 1; run 1 p; poll 2 2; run 2 p; poll 3 3; run 3 p; poll 4 4; run 4 p
+poll 1 1; run 1 e9; poll 5 5; run 5 p; poll 2 2; go 2 p x
 poll 5 5; run 5 e9 x => Some(Error) [Ran(Error), Closed, WokeOne(Some(3))] finished
 show => Inner { ready: false, quick_init: false, refcount: 3, queue: true }
 run 2 p x => Some(Pending) [Ran(Pending)] rests
@@ -135,14 +105,8 @@ poll 3 3; run 3 v4 x => Some(Value) [Ran(Value), Closed, Put, WokeAll([(2, None)
 show => Inner { ready: true, quick_init: false, refcount: 1, queue: true }
 
 # fails_after_a_refusal: the second was refused before the fifth fails, and passes its turn on
-make 1; make 2; make 3; make 4; make 5
-poll 1 1; run 1 p
-poll 2 2; run 2 p
-poll 3 3; run 3 p
-poll 4 4; run 4 p
-poll 1 1; run 1 e9
-poll 5 5; run 5 p
-poll 2 2; go 2 p x; go 2 p x
+make 1; make 2; make 3; make 4; make 5; poll 1 1; run 1 p; poll 2 2; run 2 p; poll 3 3; run 3 p; poll 4 4; run 4 p
+poll 1 1; run 1 e9; poll 5 5; run 5 p; poll 2 2; go 2 p x; go 2 p x
 poll 5 5; run 5 e9 x => Some(Error) [Ran(Error), Closed, WokeOne(Some(3))] finished
 show => Inner { ready: false, quick_init: false, refcount: 3, queue: true }
 run 2 p x => Some(Memory) [WokeOne(Some(4))] finished
@@ -151,37 +115,23 @@ poll 3 3; run 3 v4 x => Some(Value) [Ran(Value), Closed, Put, WokeAll([(2, None)
 show => Inner { ready: true, quick_init: false, refcount: 1, queue: true }
 
 # fails_after_a_leave: the second left before the fifth fails, which calls the third
-make 1; make 2; make 3; make 4; make 5
-poll 1 1; run 1 p
-poll 2 2; run 2 p
-poll 3 3; run 3 p
-poll 4 4; run 4 p
-poll 1 1; run 1 e9
-poll 5 5; run 5 p
-poll 2 2; go 2 p x; go 2 p x; go 2 p x
+make 1; make 2; make 3; make 4; make 5; poll 1 1; run 1 p; poll 2 2; run 2 p; poll 3 3; run 3 p; poll 4 4; run 4 p
+poll 1 1; run 1 e9; poll 5 5; run 5 p; poll 2 2; go 2 p x; go 2 p x; go 2 p x
 poll 5 5; run 5 e9 x => Some(Error) [Ran(Error), Closed, WokeOne(Some(3))] finished
 show => Inner { ready: false, quick_init: false, refcount: 3, queue: true }
 run 2 p x => Some(Memory) [] finished
 show => Inner { ready: false, quick_init: false, refcount: 2, queue: true }
-poll 3 3
-run 3 v4 x => Some(Value) [Ran(Value), Closed, Put, WokeAll([(2, Some(4))])] finished
+poll 3 3; run 3 v4 x => Some(Value) [Ran(Value), Closed, Put, WokeAll([(2, Some(4))])] finished
 show => Inner { ready: true, quick_init: false, refcount: 1, queue: true }
 
 # fails_after_a_poll: the poll of the second is over before the fifth fails, which calls the third
-make 1; make 2; make 3; make 4; make 5
-poll 1 1; run 1 p
-poll 2 2; run 2 p
-poll 3 3; run 3 p
-poll 4 4; run 4 p
-poll 1 1; run 1 e9
-poll 5 5; run 5 p
-poll 2 2; go 2 p x; go 2 p x; go 2 p x; go 2 p x
+make 1; make 2; make 3; make 4; make 5; poll 1 1; run 1 p; poll 2 2; run 2 p; poll 3 3; run 3 p; poll 4 4; run 4 p
+poll 1 1; run 1 e9; poll 5 5; run 5 p; poll 2 2; go 2 p x; go 2 p x; go 2 p x; go 2 p x
 poll 5 5; run 5 e9 x => Some(Error) [Ran(Error), Closed, WokeOne(Some(3))] finished
 show => Inner { ready: false, quick_init: false, refcount: 2, queue: true }
 run 2 p x => None [] finished
 show => Inner { ready: false, quick_init: false, refcount: 2, queue: true }
-poll 3 3
-run 3 v4 x => Some(Value) [Ran(Value), Closed, Put, WokeAll([(2, Some(4))])] finished
+poll 3 3; run 3 v4 x => Some(Value) [Ran(Value), Closed, Put, WokeAll([(2, Some(4))])] finished
 show => Inner { ready: true, quick_init: false, refcount: 1, queue: true }
 ";
 
@@ -194,11 +144,7 @@ fn called_while_it_is_refused(rt: HostRuntime) -> Result<(), Fail> {
 // by then.
 const DROPPED: &str = "\
 # fails_before_a_leave: the second is called, and passes its turn on
-make 1; make 2; make 3
-poll 1 1; run 1 p
-poll 2 2; run 2 p
-poll 3 3; run 3 p
-drop 2
+make 1; make 2; make 3; poll 1 1; run 1 p; poll 2 2; run 2 p; poll 3 3; run 3 p; drop 2
 poll 1 1; run 1 e9 x => Some(Error) [Ran(Error), Closed, WokeOne(Some(2))] finished
 show => Inner { ready: false, quick_init: false, refcount: 2, queue: true }
 run 2 p x => Some(Dropped) [WokeOne(Some(3))] finished
@@ -207,12 +153,7 @@ poll 3 3; run 3 v4 x => Some(Value) [Ran(Value), Closed, Put, WokeAll([])] finis
 show => Inner { ready: true, quick_init: false, refcount: 0, queue: false }
 
 # fails_beside_a_drop: the second took its listing out, and the third is called
-make 1; make 2; make 3
-poll 1 1; run 1 p
-poll 2 2; run 2 p
-poll 3 3; run 3 p
-drop 2
-go 2 p x
+make 1; make 2; make 3; poll 1 1; run 1 p; poll 2 2; run 2 p; poll 3 3; run 3 p; drop 2; go 2 p x
 poll 1 1; run 1 e9 x => Some(Error) [Ran(Error), Closed, WokeOne(Some(3))] finished
 show => Inner { ready: false, quick_init: false, refcount: 2, queue: true }
 run 2 p x => Some(Dropped) [] finished
@@ -221,12 +162,7 @@ poll 3 3; run 3 v4 x => Some(Value) [Ran(Value), Closed, Put, WokeAll([])] finis
 show => Inner { ready: true, quick_init: false, refcount: 0, queue: false }
 
 # fails_after_a_drop: the drop of the second is over, and the third is called
-make 1; make 2; make 3
-poll 1 1; run 1 p
-poll 2 2; run 2 p
-poll 3 3; run 3 p
-drop 2
-go 2 p x; go 2 p x
+make 1; make 2; make 3; poll 1 1; run 1 p; poll 2 2; run 2 p; poll 3 3; run 3 p; drop 2; go 2 p x; go 2 p x
 poll 1 1; run 1 e9 x => Some(Error) [Ran(Error), Closed, WokeOne(Some(3))] finished
 show => Inner { ready: false, quick_init: false, refcount: 1, queue: true }
 run 2 p x => None [] finished

@@ -55,6 +55,17 @@ impl<'a, 'r, R: Wait + AllocGlobal> Walker<'a, 'r, R> {
         &self.step
     }
 
+    /// The same in words.
+    pub fn stage(&self) -> &'static str {
+        if self.step.is_resting() {
+            "rests"
+        } else if self.step.is_finished() {
+            "finished"
+        } else {
+            "goes on"
+        }
+    }
+
     /// What its side noted since this was last asked; `None` says that a note was lost.
     pub fn take_notes(&mut self) -> Option<Vec<Note>> {
         self.side.take()
