@@ -1,34 +1,16 @@
 //! What a caller can say of order: once a token has seen that the cell is set, all that ask later are answered a value.
-ghost use Rattle.std.specs.Prelude.{◌≡◌, IfSome, false};
+ghost use Rattle.std.specs.Prelude.{◌≡◌, IfSome};
 ghost use Rattle.async_once_cell.specs.Polls.{IsValue};
-ghost use Rattle.async_once_cell.specs.Tokens.{IsSetIn};
 
 use crate::fault::Fault;
 use crate::told::two_tasks;
-use async_once_cell::{InitFuture, Known, OnceCell, Refused};
-use futures::future::{Ready, ready};
+use async_once_cell::{Known, OnceCell, Refused};
+use futures::future::ready;
 use futures::task::{Context, Poll};
 use futures::test::MockTask;
 use std::alloc::AllocGlobal;
 use std::random::RandomSource;
 use std::sync::Wait;
-
-/// A poll that begins after a token has seen that the cell is set answers a value: it is not Pending, and not refused.
-fn polled_after_set<'a, R>(
-    future: &mut InitFuture<'a, u64, Ready<u64>, R>,
-    cx: &mut Context<'_>,
-    token: &Known<'a, u64>,
-) -> Poll<Result<&'a u64, Refused>>
-where
-    R: Wait + AllocGlobal,
-    requires unfinished { future.old.finished ≡ false }
-    requires token_of_this_cell { token.now.cell ≡ future.old.cell }
-    requires set { IsSetIn token.now.cell token.now.log }
-    ensures { IsValue result }
-{
-    future.learn(token);
-    future.poll(cx)
-}
 
 /// A caller that finds the value by a look, and only then makes a future, is answered a value by its first poll.
 fn polled_after_look<'a, R>(
@@ -44,7 +26,8 @@ where
 {
     cell.get_as(token)?;
     let mut future = cell.get_or_init(rt, ready(5));
-    Some(polled_after_set(&mut future, cx, token))
+    future.learn(token);
+    Some(future.poll(cx))
 }
 
 /// The value of such a poll. It is proved that no other arm is reached.

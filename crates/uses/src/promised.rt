@@ -1,5 +1,5 @@
-//! Cells that promise an even value. So callers that have no token know what they are told, on any thread, and what the
-//! owner of a cell takes out of it. A promise may also speak of a key: see `table` of `memo_table`.
+//! Cells that promise an even value. So callers that have no token know what they are told, on any thread. A promise
+//! may also speak of a key: see `table` of `memo_table`.
 ghost use Rattle.std.specs.Prelude.{◌≡◌, ◌*◌, ◌^◌, ◌<◌, ℕ, true, IfOk, IfSome};
 ghost use Rattle.async_once_cell.specs.Views.{is_shared};
 
@@ -85,19 +85,6 @@ where
     )
 }
 
-/// The value that the owner takes, once no other thread has the cell.
-fn taken<R>(rt: &R, number: u64) -> Result<Option<u64>, Fault>
-where
-    R: Threads + Wait + RandomSource + AllocGlobal + Sync,
-    requires { number * 2 < 2 ^ 64 }
-    ensures { IfOk result (λ taken. IfSome taken (λ value. (half : ℕ) × (value ≡ half * 2))) }
-{
-    let mut cell = OnceCell::<u64, IsEven>::promised(&Tag::empty());
-    let (told, _) = asked_and_looked(rt, &cell, number);
-    told?;
-    Ok(cell.take())
-}
-
 /// The value of a lazy cell, for a caller without a token and over any future.
 fn even<F, R>(rt: &R, lazy: &Lazy<u64, F, IsEven>) -> Result<u64, Fault>
 where
@@ -109,12 +96,13 @@ where
     Ok(*lazy.get(rt).wait()??)
 }
 
-/// What the owner of a cell takes, and what a lazy cell gives. Both numbers are even.
-pub fn ask<R>(rt: &R) -> Result<(Option<u64>, u64), Fault>
+/// What a thread is told while another looks, and what a lazy cell gives. Both numbers are even.
+pub fn ask<R>(rt: &R) -> Result<(u64, u64), Fault>
 where
     R: Threads + Wait + RandomSource + AllocGlobal + Sync,
 {
-    let taken = taken(rt, 35)?;
+    let cell = OnceCell::<u64, IsEven>::promised(&Tag::empty());
+    let (told, _) = asked_and_looked(rt, &cell, 35);
     let lazy = Lazy::<u64, Twice, IsEven>::promised(Twice { half: 21 });
-    Ok((taken, even(rt, &lazy)?))
+    Ok((told?, even(rt, &lazy)?))
 }

@@ -2,7 +2,7 @@
 ghost use Rattle.std.specs.Prelude.{◌≡◌, Some, IfOk};
 
 use crate::fault::Fault;
-use crate::told::{told_alone, told_before};
+use crate::told::told_alone;
 use async_once_cell::OnceCell;
 use async_once_cell::once::Known;
 use futures::Future;
@@ -95,27 +95,6 @@ where
     Ok((first, second))
 }
 
-/// What two threads are told between two looks. If the first look finds nothing, and the second a value, then by the
-/// record the first came before the value was set.
-fn filled<'a, R>(
-    rt: &'a R,
-    cell: &'a OnceCell<u64>,
-    found: u64,
-    loads: &'a AtomicU64,
-) -> Result<(u64, u64), Fault>
-where
-    R: Threads + Wait + RandomSource + AllocGlobal + Sync,
-    ensures { IfOk result (λ told. told.0 ≡ told.1) }
-{
-    let (mut early, mut late) = (cell.token(), cell.token());
-    let is_empty = cell.get_as(&mut early).is_none();
-    let told = told_both(rt, cell, found, loads)?;
-    if is_empty && cell.get_as(&mut late).is_some() {
-        told_before(&early, &late);
-    }
-    Ok(told)
-}
-
 /// What a load that finds nothing is told: its own error, and by the record nobody else was told that.
 fn failed<R>(rt: &R, cell: &OnceCell<u64>, loads: &AtomicU64) -> Result<u64, Fault>
 where
@@ -135,8 +114,8 @@ where
 {
     let (mut cell, loads) = (OnceCell::new(), AtomicU64::new(0));
     let error = failed(rt, &cell, &loads);
-    let first = filled(rt, &cell, 80, &loads);
+    let first = told_both(rt, &cell, 80, &loads);
     cell.take();
-    let second = filled(rt, &cell, 8080, &loads);
+    let second = told_both(rt, &cell, 8080, &loads);
     (error, [first, second], loads.load(Ordering::SeqCst))
 }

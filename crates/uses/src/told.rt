@@ -1,10 +1,8 @@
 //! What callers that asked one cell can say of each other, by what they have seen of its record.
 ghost use Rattle.std.specs.Prelude.{◌≡◌, ◌≢◌, ℕ, true, List, ◌∷◌, ◌++◌, Some, reverse};
-ghost use mathlib.Core.List.{IsPrefix};
 ghost use Rattle.async_once_cell.specs.Record.{End, Entry, Error, Once, RanError};
 ghost use Rattle.async_once_cell.specs.Called.{SomebodyCalled};
 ghost use Rattle.async_once_cell.specs.Tasks.{last_call};
-ghost use Rattle.async_once_cell.specs.Tokens.{IsSetIn};
 ghost use Rattle.async_once_cell.specs.Views.{is_shared};
 
 use async_once_cell::laws::error_is_ones_own;
@@ -12,16 +10,6 @@ use async_once_cell::{InitFuture, Known, OnceCell};
 use futures::future::{Ready, ready};
 use std::alloc::AllocGlobal;
 use std::sync::Wait;
-
-/// A caller that was told that there is no value was told so before it was set. It does nothing.
-pub fn told_before<'a, T>(without: &Known<'a, T>, with: &Known<'a, T>)
-    requires one_cell { without.now.cell ≡ with.now.cell }
-    requires unset { IsSetIn without.now.cell without.now.log → ⊥ }
-    requires set { IsSetIn with.now.cell with.now.log }
-    ensures { IsPrefix without.now.log with.now.log }
-{
-    Known::compare_records(without, with);
-}
 
 /// Wherever in the record of a cell that tasks share an error was told, it was told to the task whose own init
 /// gave it. It does nothing.

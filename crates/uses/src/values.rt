@@ -1,7 +1,5 @@
 //! Which value a poll without a token answered: the future tells it to any token of its cell.
-//! And if by the record the poll's own init gave a value, it is one that this init may give.
-ghost use Rattle.std.specs.Prelude.{◌≡◌, IfSome, IsSomeAnd, false, true};
-ghost use Rattle.async_once_cell.specs.Record.{gave_value};
+ghost use Rattle.std.specs.Prelude.{◌≡◌, IfSome, false};
 
 use crate::fault::Fault;
 use async_once_cell::{InitFuture, Known, OnceCell};
@@ -61,40 +59,6 @@ where
     Some((first, second))
 }
 
-/// What a poll answers whose init gives this value alone. Other futures of the cell may give others. But if the record
-/// says that this init gave a value in the poll, a value that is answered is this one.
-fn answered_of_own_init<F, R>(
-    future: &mut InitFuture<'_, u64, F, R>,
-    cx: &mut Context<'_>,
-    value: u64,
-) -> Option<u64>
-where
-    F: Future<Output = u64>,
-    R: Wait + AllocGlobal,
-    requires unfinished { future.old.finished ≡ false }
-    requires gives { (v : _) → IsSomeAnd future.old.init (λ init. F.gives init v) → v ≡ value }
-    ensures { gave_value future.new.task future.new.log ≡ true → IfSome result (λ answered. answered ≡ value) }
-{
-    match future.poll(cx) {
-        Poll::Ready(Ok(answered)) => Some(*answered),
-        _ => None,
-    }
-}
-
-/// An init that gives this value.
-#[derive(Drop)]
-struct Gives(u64);
-
-impl Future for Gives {
-    type Output = u64;
-
-    ghost gives = { λ init value. value ≡ init.0 };
-
-    fn poll(&mut self, _cx: &mut Context<'_>) -> Poll<u64> {
-        Poll::Ready(self.0)
-    }
-}
-
 /// What two futures of a new cell answer, and then a third, beside a look.
 fn asked_without_a_token<R>(rt: &R, cx: &mut Context<'_>) -> Option<[u64; 4]>
 where
@@ -111,13 +75,10 @@ where
     Some([*first, *second, *third, *looked])
 }
 
-/// What polls without a token answer, beside a look, and one whose init gives 8.
-pub fn ask<R>(rt: &R) -> Result<(Option<[u64; 4]>, Option<u64>), Fault>
+/// What polls without a token answer, beside a look.
+pub fn ask<R>(rt: &R) -> Result<Option<[u64; 4]>, Fault>
 where
     R: Wait + RandomSource + AllocGlobal,
 {
-    let (task, cell) = (MockTask::new(rt)?, OnceCell::new());
-    let asked = task.enter(|cx| asked_without_a_token(rt, cx));
-    let own = task.enter(|cx| answered_of_own_init(&mut cell.get_or_init(rt, Gives(8)), cx, 8));
-    Ok((asked, own))
+    Ok(MockTask::new(rt)?.enter(|cx| asked_without_a_token(rt, cx)))
 }
