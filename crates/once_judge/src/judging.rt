@@ -31,8 +31,7 @@ impl Judge {
     /// Takes an entry if it may come next, and else tells why not.
     ///
     /// ```
-    /// let (judge, refused) = self.judge.take(entry)?;
-    /// self.judge = judge;
+    /// let (judge, refused) = judge.take(entry)?;
     /// ```
     pub fn take(mut self, entry: Entry) -> Result<(Judge, Option<Reason>), AllocError> {
         match self.seen.follow(&entry)? {

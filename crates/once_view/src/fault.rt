@@ -2,8 +2,10 @@
 ghost use Rattle.std.specs.Prelude.{◌≡◌};
 ghost use Rattle.once_view.specs.declared.fault.Fault.TheVariants.{Io, Memory};
 
+use crate::text::write_filled;
 use std::alloc::{AllocError, AllocFailed};
 use std::error::Error;
+use std::fmt::Display;
 use std::{fmt, io};
 
 /// What may stand in a line.
@@ -39,7 +41,8 @@ impl fmt::Display for UnreadableLine {
         write!(f, "line {} can't be read: {:?}", self.number, self.text)?;
         let told = self.text.chars().count();
         if told < self.length {
-            write!(f, " (cut after {told} of {} characters)", self.length)?;
+            let counts = [told as u64, self.length as u64];
+            write_filled(f, " (cut after {} of {} characters)", &counts)?;
         }
         write!(f, "; expected: {}", self.expected)
     }
@@ -90,15 +93,18 @@ impl fmt::Display for Fault {
             Fault::NoCell => f.write_str(
                 "no line says which cell it is; expected: `once LIMIT` or `lazy LIMIT`",
             ),
-            Fault::NotText(number) => write!(f, "line {number} is not UTF-8"),
-            Fault::Unreadable(line) => write!(f, "{line}"),
-            Fault::FromAfterTo { from, to } => write!(f, "--from {from} is after --to {to}"),
-            Fault::BeyondTheEnd { from, end } => write!(
+            Fault::NotText(number) => write_filled(f, "line {} is not UTF-8", &[*number]),
+            Fault::Unreadable(line) => line.fmt(f),
+            Fault::FromAfterTo { from, to } => {
+                write_filled(f, "--from {} is after --to {}", &[*from, *to])
+            }
+            Fault::BeyondTheEnd { from, end } => write_filled(
                 f,
-                "--from {from} is beyond the end: line {end} is the last that says something"
+                "--from {} is beyond the end: line {} is the last that says something",
+                &[*from, *end],
             ),
             Fault::NothingSaid { from, to } => {
-                write!(f, "no line from {from} to {to} says anything")
+                write_filled(f, "no line from {} to {} says anything", &[*from, *to])
             }
             Fault::ClosedPipe => f.write_str("the output was closed"),
             Fault::Io => f.write_str("input or output failed"),

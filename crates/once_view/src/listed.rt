@@ -60,6 +60,14 @@ impl Listed {
         &self.uncalled
     }
 
+    /// The task that is listed at this place, if it is listed there with this waker.
+    pub fn task_at(&self, place: u64, waker: u64) -> Option<u64> {
+        match self.listings.get(&place) {
+            Some(listing) if listing.waker == Some(waker) => Some(listing.task),
+            _ => None,
+        }
+    }
+
     /// Takes an entry that a line adds.
     pub fn take(&mut self, entry: &Entry) -> Result<(), AllocError> {
         match entry {

@@ -8,6 +8,7 @@ mod copies;
 mod search;
 mod text;
 
+use crate::text::write_filled;
 use crate::verdict::ReasonText;
 pub use calls::BadEvents;
 pub use search::{Answer, Stop, linearize};
@@ -21,11 +22,8 @@ pub struct StopLine<'a>(pub &'a Stop, pub &'a [Event]);
 impl fmt::Display for StopLine<'_> {
     fn fmt<W: fmt::Write>(&self, f: &mut fmt::Formatter<W>) -> fmt::Result {
         let Stop { event, reason } = *self.0;
-        write!(
-            f,
-            "no run has what was seen: event {}",
-            event.saturating_add(1)
-        )?;
+        let number = (event as u64).saturating_add(1);
+        write_filled(f, "no run has what was seen: event {}", &[number])?;
         if let Some(event) = self.1.get(event) {
             write!(f, ", {event}")?;
         }

@@ -40,7 +40,7 @@ pub fn write_picture<O: Write>(
 /// entries, of which there may be fewer.
 ///
 /// ```
-/// write_record(alloc, title, kind, before, &lines, output)
+/// write_record(alloc, title.as_str(), kind, before, &lines, output)
 /// ```
 pub fn write_record<'a, O: Write>(
     alloc: Global,
@@ -224,21 +224,29 @@ impl Picture {
     fn add(&mut self, at: u64, entry: &Entry) -> Result<(), AllocError> {
         match entry {
             Entry::Made(task) => return self.lanes.add(*task, at),
-            Entry::Begin(task, _) => self.begin(*task, at, false),
-            Entry::DropBegin(task) => self.begin(*task, at, true),
-            Entry::Claim(task) => self.claim(*task, at),
-            Entry::Ran(task, answer) => self.ran(*task, at, *answer),
             Entry::Free(task, wakers) => self.release(*task, at, CellState::Empty, wakers),
             Entry::Fill(task, value, wakers) => {
                 self.release(*task, at, CellState::Set(*value), wakers);
             }
             Entry::Pass(task, wakers) => self.wake(*task, at, wakers),
-            Entry::End(task, reply) => self.end(*task, at, *reply),
-            Entry::DropEnd(task) => self.end_drop(*task, at),
             Entry::Look(value) => self.shapes.add(Shape::Look { at, value: *value }),
             Entry::Own(call, _) => self.own(at, call),
+            _ => self.add_call(at, entry),
         }
         Ok(())
+    }
+
+    /// Adds what a call did that wakes nobody.
+    fn add_call(&mut self, at: u64, entry: &Entry) {
+        match *entry {
+            Entry::Begin(task, _) => self.begin(task, at, false),
+            Entry::DropBegin(task) => self.begin(task, at, true),
+            Entry::Claim(task) => self.claim(task, at),
+            Entry::Ran(task, answer) => self.ran(task, at, answer),
+            Entry::End(task, reply) => self.end(task, at, reply),
+            Entry::DropEnd(task) => self.end_drop(task, at),
+            _ => {}
+        }
     }
 
     /// The cell comes to another state.
@@ -281,17 +289,15 @@ impl Picture {
     /// waker the one listed first is woken.
     fn wake(&mut self, task: u64, at: u64, wakers: &[u64]) {
         let caller = self.lanes.number_of(task);
-        let mut wakers = wakers;
+        let mut count = 0usize;
         for place in self.listed.uncalled() {
-            let Some((waker, later)) = wakers.split_first() else {
+            let Some(waker) = wakers.get(count) else {
                 return;
             };
-            if let Some(listing) = self.listed.listings().get(place)
-                && listing.waker == Some(*waker)
-            {
-                let called = self.lanes.number_of(listing.task);
+            if let Some(called) = self.listed.task_at(*place, *waker) {
+                let called = self.lanes.number_of(called);
                 self.shapes.add(Shape::Wake { at, caller, called });
-                wakers = later;
+                count = count.saturating_add(1);
             }
         }
     }

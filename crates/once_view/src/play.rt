@@ -3,6 +3,7 @@ ghost use Rattle.std.specs.Prelude.{OnOk};
 ghost use Rattle.once_script.specs.Reached.{IsReached};
 
 use crate::reading::{Script, ScriptLine, TextLine};
+use crate::text::write_filled;
 use once_machine::step::Step;
 use once_script::parse::{Line, Opening};
 use once_script::play::take_line;
@@ -34,17 +35,30 @@ pub enum Reason {
 
 impl fmt::Display for Reason {
     fn fmt<W: fmt::Write>(&self, f: &mut fmt::Formatter<W>) -> fmt::Result {
-        match self {
-            Reason::MadeBefore(task) => write!(f, "task {task} was made before"),
-            Reason::NotMade(task) => write!(f, "task {task} was not made"),
-            Reason::CallUnderWay(task) => write!(f, "a call of task {task} is under way"),
-            Reason::NoCallUnderWay(task) => write!(f, "no call of task {task} is under way"),
-            Reason::Gone(task) => write!(f, "task {task} is gone"),
-            Reason::NotGone(task) => write!(f, "task {task} is not gone"),
-            Reason::NotOfOnce(word) => write!(f, "a once cell has no call `{word}`"),
-            Reason::NotOfLazy(word) => write!(f, "a lazy cell has no call `{word}`"),
+        match *self {
+            Reason::MadeBefore(task) => write_filled(f, "task {} was made before", &[task]),
+            Reason::NotMade(task) => write_filled(f, "task {} was not made", &[task]),
+            Reason::CallUnderWay(task) => {
+                write_filled(f, "a call of task {} is under way", &[task])
+            }
+            Reason::NoCallUnderWay(task) => {
+                write_filled(f, "no call of task {} is under way", &[task])
+            }
+            Reason::Gone(task) => write_filled(f, "task {} is gone", &[task]),
+            Reason::NotGone(task) => write_filled(f, "task {} is not gone", &[task]),
+            Reason::NotOfOnce(word) => write_no_call(f, "once", word),
+            Reason::NotOfLazy(word) => write_no_call(f, "lazy", word),
         }
     }
+}
+
+/// Writes that a cell of this kind has no call of this name.
+fn write_no_call<W: fmt::Write>(
+    f: &mut fmt::Formatter<W>,
+    kind: &'static str,
+    word: &'static str,
+) -> fmt::Result {
+    write!(f, "a {kind} cell has no call `{word}`")
 }
 
 /// What there is to see after a line.

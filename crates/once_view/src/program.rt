@@ -7,8 +7,14 @@ mod showing;
 pub use judging::judge_record;
 pub use showing::show_script;
 use std::alloc::AllocGlobal;
+use std::env::{self, Env};
 use std::fs::{self, Files};
 use std::io::{self, BufReader, Read};
+
+// The words of the command line.
+fn words_of<R: Env + AllocGlobal>(rt: &R) -> io::Result<Vec<String>> {
+    Ok(env::args(rt)?.collect(rt.alloc())?)
+}
 
 // Where a text is read from.
 #[derive(Clone, Copy)]

@@ -51,26 +51,33 @@ pub fn read_script(alloc: Global, text: &[u8]) -> Result<Script<'_>, Fault> {
         return Err(Fault::NoCell);
     };
     let first = decode(*first)?;
-    let Some(opening) = parse_opening(alloc, first.text)? else {
-        return Err(unreadable(alloc, first, first_form(first.text))?);
-    };
     Ok(Script {
-        opening,
+        opening: read_opening(alloc, first)?,
         first,
         lines: read_lines(alloc, later)?,
     })
 }
 
+fn read_opening(alloc: Global, first: TextLine<'_>) -> Result<Opening, Fault> {
+    let Some(opening) = parse_opening(alloc, first.text)? else {
+        return Err(unreadable(alloc, first, first_form(first.text))?);
+    };
+    Ok(opening)
+}
+
 fn read_lines<'a>(alloc: Global, lines: &[RawLine<'a>]) -> Result<Vec<ScriptLine<'a>>, Fault> {
     let mut read = Vec::new(alloc);
     for line in lines {
-        let source = decode(*line)?;
-        let Some(line) = parse_line(alloc, source.text)? else {
-            return Err(unreadable(alloc, source, expected_form(source.text))?);
-        };
-        read.push(ScriptLine { source, line })?;
+        read.push(read_line(alloc, decode(*line)?)?)?;
     }
     Ok(read)
+}
+
+fn read_line(alloc: Global, source: TextLine<'_>) -> Result<ScriptLine<'_>, Fault> {
+    let Some(line) = parse_line(alloc, source.text)? else {
+        return Err(unreadable(alloc, source, expected_form(source.text))?);
+    };
+    Ok(ScriptLine { source, line })
 }
 
 /// The lines that say something.

@@ -1,8 +1,31 @@
-//! A text that grows.
+//! A text that grows, and templates with numbers.
 use std::alloc::{AllocError, Global};
-use std::fmt::Display;
+use std::fmt::{self, Display};
 use std::io;
 use std::io::Write;
+
+/// Writes a template, with a number in the place of each `{}`.
+pub fn write_filled<W: fmt::Write>(
+    f: &mut fmt::Formatter<W>,
+    template: &str,
+    numbers: &[u64],
+) -> fmt::Result {
+    let mut numbers = numbers.iter();
+    for part in template.split("{}") {
+        f.write_str(part)?;
+        if let Some(number) = numbers.next() {
+            write!(f, "{number}")?;
+        }
+    }
+    Ok(())
+}
+
+/// A value as it is shown.
+pub fn shown<D: Display>(alloc: Global, value: &D) -> Result<String, AllocError> {
+    let mut text = Text::new(alloc);
+    text.show(value);
+    text.into_string()
+}
 
 /// A text that grows. It remembers if memory was refused, so what adds to it need not ask each time.
 #[derive(Drop)]

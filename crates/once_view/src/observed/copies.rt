@@ -1,6 +1,6 @@
 //! Copies of entries.
 
-use once_machine::record::{Call, Entry, Got};
+use once_machine::record::{Entry, Got};
 use std::alloc::{AllocError, Global};
 
 /// A copy of this entry.
@@ -19,22 +19,7 @@ pub fn copy_of(alloc: Global, entry: &Entry) -> Result<Entry, AllocError> {
         Entry::DropBegin(task) => Ok(Entry::DropBegin(*task)),
         Entry::DropEnd(task) => Ok(Entry::DropEnd(*task)),
         Entry::Look(found) => Ok(Entry::Look(*found)),
-        Entry::Own(call, got) => Ok(Entry::Own(
-            copy_of_call(alloc, call)?,
-            copy_of_got(alloc, got)?,
-        )),
-    }
-}
-
-fn copy_of_call(alloc: Global, call: &Call) -> Result<Call, AllocError> {
-    match call {
-        Call::Take => Ok(Call::Take),
-        Call::Write(value) => Ok(Call::Write(*value)),
-        Call::Parts => Ok(Call::Parts),
-        Call::ReplaceValue(value) => Ok(Call::ReplaceValue(*value)),
-        Call::ReplaceAnswers(answers) => {
-            Ok(Call::ReplaceAnswers(Vec::from_slice(alloc, answers)?))
-        }
+        Entry::Own(call, got) => Ok(Entry::Own(call.clone()?, copy_of_got(alloc, got)?)),
     }
 }
 

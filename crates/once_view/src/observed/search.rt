@@ -86,8 +86,8 @@ enum Choice {
     GoOn,
     // This call does not do what it may have done.
     Leave(usize),
-    // This call does what comes next in it, and wakes so.
-    Do(usize, Woken),
+    // This call does this next, and wakes so.
+    Do(usize, Deed, Woken),
 }
 
 // Whom a call wakes.
@@ -118,7 +118,8 @@ enum Wakes {
 #[derive(Drop)]
 struct State<'a> {
     search: Search<'a>,
-    judge: Judge,
+    // It is gone while it takes an entry, and for good if memory was refused then.
+    judge: Option<Judge>,
     // How much of each call was done.
     done: Vec<usize>,
     // The calls before this one are over.
@@ -142,24 +143,21 @@ struct Path {
     stop: Stop,
 }
 
+// How a search ended.
+#[derive(Clone, Copy)]
+enum End {
+    Run,
+    NoRun,
+    GaveUp,
+}
+
 impl<'a> Search<'a> {
-    // Tries choices one after another, so many at most. A choice after which nothing may come next is taken back.
+    // Tries choices one after another, so many at most.
     fn run(self, steps: u64) -> Result<Answer, AllocError> {
         let mut state = State::first(self)?;
         let mut path = Path::new(self.alloc);
-        for _ in 0..steps {
-            if state.is_over() {
-                return Ok(Answer::Run(state.into_run()));
-            }
-            if let Some(choice) = state.choices()?.get(path.next).copied() {
-                state = path.go_on(state, choice)?;
-            } else if path.go_back() {
-                state = self.after(&path.made)?;
-            } else {
-                return Ok(Answer::NoRun(path.stop));
-            }
-        }
-        Ok(Answer::GaveUp(path.stop))
+        let end = path.walk(&mut state, steps)?;
+        state.answer(end, path.stop)
     }
 
     // How many this may wake.
@@ -173,31 +171,6 @@ impl<'a> Search<'a> {
             (Deed::Free, Calls::All) | (Deed::Fill(_), _) => Wakes::All,
         }
     }
-
-    // The event that this tells, if it tells one.
-    fn told(self, deed: Deed) -> Option<&'a Event> {
-        match deed {
-            Deed::Told(event) => self.observed.events.get(event),
-            _ => None,
-        }
-    }
-
-    // A copy of the entry that this tells, if it tells one.
-    fn told_entry(self, deed: Deed) -> Result<Option<Entry>, AllocError> {
-        match self.told(deed) {
-            Some(Event::Entry(entry)) => Ok(Some(copy_of(self.alloc, entry)?)),
-            _ => Ok(None),
-        }
-    }
-
-    // The state after these choices.
-    fn after(self, made: &[(usize, Choice)]) -> Result<State<'a>, AllocError> {
-        let mut state = State::first(self)?;
-        for (_, choice) in made {
-            state = state.make(*choice)?.0;
-        }
-        Ok(state)
-    }
 }
 
 impl Path {
@@ -210,31 +183,60 @@ impl Path {
         }
     }
 
-    // Tries a choice at this state, which is the one after the choices so far. Answers the state to go on from.
-    fn go_on<'a>(&mut self, state: State<'a>, choice: Choice) -> Result<State<'a>, AllocError> {
-        let event = state.past;
-        let (mut state, made) = state.make(choice)?;
-        match made {
-            Made::Yes => {
-                self.made.push((self.next, choice))?;
-                self.next = 0;
-                state.is_dead |= !self.known.insert(state.digest()?)?;
+    // Goes so many steps at most, from the state after the choices so far.
+    fn walk(&mut self, state: &mut State<'_>, steps: u64) -> Result<End, AllocError> {
+        for _ in 0..steps {
+            if state.is_over() {
+                return Ok(End::Run);
             }
+            if !self.step(state)? {
+                return Ok(End::NoRun);
+            }
+        }
+        Ok(End::GaveUp)
+    }
+
+    // Tries the next choice. If there is none, the last one is taken back. Answers whether there was one.
+    fn step(&mut self, state: &mut State<'_>) -> Result<bool, AllocError> {
+        match state.choice(self.next)? {
+            Some(choice) => self.go_on(state, choice),
+            None => self.go_back(state),
+        }
+    }
+
+    // Tries a choice.
+    fn go_on(&mut self, state: &mut State<'_>, choice: Choice) -> Result<bool, AllocError> {
+        let event = state.past;
+        match state.make(choice)? {
+            Made::Yes => self.note(state, choice)?,
             Made::No(reason) => {
                 self.stop = self.stop.farther(event, reason);
                 self.next = self.next.saturating_add(1);
             }
         }
-        Ok(state)
+        Ok(true)
+    }
+
+    // This choice led to this state.
+    fn note(&mut self, state: &mut State<'_>, choice: Choice) -> Result<(), AllocError> {
+        self.made.push((self.next, choice))?;
+        self.next = 0;
+        let is_new = self.known.insert(state.digest()?)?;
+        state.is_dead |= !is_new;
+        Ok(())
     }
 
     // Takes the last choice back, if there is one, so that the one after it is tried next.
-    fn go_back(&mut self) -> bool {
-        let last = self.made.pop();
-        if let Some((place, _)) = last {
-            self.next = place.saturating_add(1);
+    fn go_back(&mut self, state: &mut State<'_>) -> Result<bool, AllocError> {
+        let Some((place, _)) = self.made.pop() else {
+            return Ok(false);
+        };
+        self.next = place.saturating_add(1);
+        *state = State::first(state.search)?;
+        for (_, choice) in &self.made {
+            state.make(*choice)?;
         }
-        last.is_some()
+        Ok(true)
     }
 }
 
@@ -261,17 +263,33 @@ enum Made {
     No(Option<Reason>),
 }
 
+// The choice at a place, which is sought among those that can be made.
+#[derive(Clone, Copy)]
+struct Pick {
+    place: usize,
+    // How many there were so far.
+    count: usize,
+    found: Option<Choice>,
+}
+
+impl Pick {
+    // Sees the next choice.
+    fn see(&mut self, choice: Choice) {
+        if self.count == self.place {
+            self.found = Some(choice);
+        }
+        self.count = self.count.saturating_add(1);
+    }
+}
+
 impl<'a> State<'a> {
     // Where a search begins.
     fn first(search: Search<'a>) -> Result<State<'a>, AllocError> {
-        let mut done = Vec::new(search.alloc);
-        for _ in search.calls {
-            done.push(0)?;
-        }
+        let done = vec![in search.alloc; 0; search.calls.len()]?;
         let (kind, limit) = (&search.observed.kind, search.observed.limit);
         Ok(State {
             search,
-            judge: Judge::new(search.alloc, kind, limit, search.rule)?,
+            judge: Some(Judge::new(search.alloc, kind, limit, search.rule)?),
             done,
             first: 0,
             past: 0,
@@ -283,20 +301,35 @@ impl<'a> State<'a> {
         self.past >= self.search.observed.events.len() && self.first >= self.search.calls.len()
     }
 
-    // The entries so far, of which the judge took each.
-    fn into_run(self) -> Vec<Entry> {
-        self.judge.into_taken()
+    // What a search found that ended here. The judge took each entry of a run.
+    fn answer(self, end: End, stop: Stop) -> Result<Answer, AllocError> {
+        match (end, self.judge) {
+            (End::Run, Some(judge)) => Ok(Answer::Run(judge.into_taken())),
+            (End::NoRun, Some(_)) => Ok(Answer::NoRun(stop)),
+            (End::GaveUp, Some(_)) => Ok(Answer::GaveUp(stop)),
+            (_, None) => Err(AllocError),
+        }
+    }
+
+    fn judge(&self) -> Result<&Judge, AllocError> {
+        self.judge.as_ref().ok_or(AllocError)
     }
 
     // Numbers that tell all of what may come from here on.
     fn digest(&self) -> Result<Vec<u64>, AllocError> {
-        let mut numbers = self.judge.digest(self.search.alloc)?;
+        let mut numbers = self.judge()?.digest(self.search.alloc)?;
+        self.add_place(&mut numbers)?;
+        Ok(numbers)
+    }
+
+    // Adds how many events are past, and how much was done of each call that is under way.
+    fn add_place(&self, numbers: &mut Vec<u64>) -> Result<(), AllocError> {
         numbers.push(self.past as u64)?;
         for call in self.first..self.begun() {
             let done = self.done.get(call).copied().unwrap_or(0);
             numbers.extend_from_slice(&[call as u64, done as u64])?;
         }
-        Ok(numbers)
+        Ok(())
     }
 
     // How many calls have begun.
@@ -308,100 +341,120 @@ impl<'a> State<'a> {
     // What this call does next, if that may be here.
     fn next_of(&self, call: usize) -> Option<Effect> {
         let done = *self.done.get(call)?;
-        let effect = self.search.calls.get(call)?.effects.get(done)?;
+        let effect = *self.search.calls.get(call)?.effects.get(done)?;
         if effect.from <= self.past {
-            Some(*effect)
+            Some(effect)
         } else {
             None
         }
     }
 
-    // What may be done next, in the order in which it is tried. What has to be done before the next event comes first;
-    // if there is no such thing, the next event does; and then what may be done later too.
-    fn choices(&self) -> Result<Vec<Choice>, AllocError> {
-        let mut choices = Vec::new(self.search.alloc);
-        if self.is_dead {
-            return Ok(choices);
+    // The choice at this place of those that can be made here, in the order in which they are tried. What has to be
+    // done before the next event comes first; if there is no such thing, the next event does; and then what may be done
+    // later too.
+    fn choice(&self, place: usize) -> Result<Option<Choice>, AllocError> {
+        let mut pick = Pick {
+            place,
+            count: 0,
+            found: None,
+        };
+        if !self.is_dead {
+            self.see_choices(&self.listed()?, &mut pick);
         }
-        self.add_choices(true, &mut choices)?;
-        if choices.is_empty() {
-            choices.push(Choice::GoOn)?;
-        }
-        self.add_choices(false, &mut choices)?;
-        Ok(choices)
+        Ok(pick.found)
     }
 
-    // Adds what calls may do, either all that has to be done before the next event comes, or all that has not.
-    fn add_choices(&self, is_due: bool, choices: &mut Vec<Choice>) -> Result<(), AllocError> {
+    // The wakers of which a call may wake one, unless wakes were seen.
+    fn listed(&self) -> Result<Vec<u64>, AllocError> {
+        if self.search.observed.are_wakes_seen {
+            return Ok(Vec::new(self.search.alloc));
+        }
+        self.judge()?.listed(self.search.alloc, false)
+    }
+
+    fn see_choices(&self, listed: &[u64], pick: &mut Pick) {
+        self.see_deeds(true, listed, pick);
+        if pick.count == 0 {
+            pick.see(Choice::GoOn);
+        }
+        self.see_deeds(false, listed, pick);
+    }
+
+    // What calls may do: either all that has to be done before the next event comes, or all that has not.
+    fn see_deeds(&self, is_due: bool, listed: &[u64], pick: &mut Pick) {
         for call in self.first..self.begun() {
             if let Some(effect) = self.next_of(call)
                 && (effect.to <= self.past) == is_due
             {
-                self.add_ways(call, effect, choices)?;
+                self.see_ways(call, effect, listed, pick);
             }
         }
-        Ok(())
     }
 
-    // Adds the ways in which a call may do this.
-    fn add_ways(
-        &self,
-        call: usize,
-        effect: Effect,
-        choices: &mut Vec<Choice>,
-    ) -> Result<(), AllocError> {
+    // The ways in which a call may do this.
+    fn see_ways(&self, call: usize, effect: Effect, listed: &[u64], pick: &mut Pick) {
+        let deed = effect.deed;
         if !effect.is_sure {
-            choices.push(Choice::Leave(call))?;
+            pick.see(Choice::Leave(call));
         }
-        match self.search.wakes(effect.deed) {
-            Wakes::Seen => choices.push(Choice::Do(call, Woken::Seen))?,
+        match self.search.wakes(deed) {
+            Wakes::Seen => pick.see(Choice::Do(call, deed, Woken::Seen)),
             Wakes::One => {
-                choices.push(Choice::Do(call, Woken::Seen))?;
-                for waker in self.judge.listed(self.search.alloc, false)? {
-                    choices.push(Choice::Do(call, Woken::One(waker)))?;
+                pick.see(Choice::Do(call, deed, Woken::Seen));
+                for waker in listed {
+                    pick.see(Choice::Do(call, deed, Woken::One(*waker)));
                 }
             }
             Wakes::All => {
-                choices.push(Choice::Do(call, Woken::Listed))?;
-                choices.push(Choice::Do(call, Woken::Due))?;
+                pick.see(Choice::Do(call, deed, Woken::Listed));
+                pick.see(Choice::Do(call, deed, Woken::Due));
             }
         }
-        Ok(())
     }
 
     // Makes a choice, if it may be made. Else the state is as before.
-    fn make(mut self, choice: Choice) -> Result<(State<'a>, Made), AllocError> {
+    fn make(&mut self, choice: Choice) -> Result<Made, AllocError> {
         match choice {
             Choice::GoOn => self.past = self.past.saturating_add(1),
             Choice::Leave(call) => self.one_more(call),
-            Choice::Do(call, woken) => return self.make_next(call, woken),
+            Choice::Do(call, deed, woken) => return self.act(call, deed, woken),
         }
-        Ok((self, Made::Yes))
+        Ok(Made::Yes)
     }
 
-    // Does what comes next in a call, if that may come here. Else the state is as before.
-    fn make_next(mut self, call: usize, woken: Woken) -> Result<(State<'a>, Made), AllocError> {
-        if let Some(effect) = self.next_of(call) {
-            if self.is_refuted(effect.deed) {
-                return Ok((self, Made::No(None)));
-            }
-            if let Some(entry) = self.entry(call, effect.deed, woken)? {
-                let (judge, refused) = self.judge.take(entry)?;
-                self.judge = judge;
-                if refused.is_some() {
-                    return Ok((self, Made::No(refused)));
-                }
-                self.is_dead = self.search.is_strict && self.judge.forgotten().is_some();
-            }
+    // Does this in a call, if that may come here. Else the state is as before.
+    fn act(&mut self, call: usize, deed: Deed, woken: Woken) -> Result<Made, AllocError> {
+        if let Deed::Told(event) = deed
+            && self.is_refuted(event)
+        {
+            return Ok(Made::No(None));
+        }
+        let refused = match self.entry(call, deed, woken)? {
+            Some(entry) => self.take(entry)?,
+            None => None,
+        };
+        if refused.is_some() {
+            return Ok(Made::No(refused));
         }
         self.one_more(call);
-        Ok((self, Made::Yes))
+        Ok(Made::Yes)
     }
 
-    // Whether this tells that a task was woken, and it was not.
-    fn is_refuted(&self, deed: Deed) -> bool {
-        match self.search.told(deed) {
-            Some(Event::Woken(task)) => !self.judge.was_woken(*task),
+    // Has the judge take an entry. Tells why it may not come here, if it may not.
+    fn take(&mut self, entry: Entry) -> Result<Option<Reason>, AllocError> {
+        let Some(judge) = self.judge.take() else {
+            return Err(AllocError);
+        };
+        let (judge, refused) = judge.take(entry)?;
+        self.is_dead = self.search.is_strict && judge.forgotten().is_some();
+        self.judge = Some(judge);
+        Ok(refused)
+    }
+
+    // Whether this event tells that a task was woken, and it was not.
+    fn is_refuted(&self, event: usize) -> bool {
+        match (self.search.observed.events.get(event), &self.judge) {
+            (Some(Event::Woken(task)), Some(judge)) => !judge.was_woken(*task),
             _ => false,
         }
     }
@@ -411,32 +464,59 @@ impl<'a> State<'a> {
         if let Some(done) = self.done.get_mut(call) {
             *done = done.saturating_add(1);
         }
-        let calls = self.search.calls.iter().zip(&self.done).skip(self.first);
-        let over = calls.take_while(|(call, done)| **done >= call.effects.len());
-        self.first = self.first.saturating_add(over.count());
+        for call in self.first..self.search.calls.len() {
+            if !self.is_call_over(call) {
+                return;
+            }
+            self.first = call.saturating_add(1);
+        }
+    }
+
+    fn is_call_over(&self, call: usize) -> bool {
+        match (self.search.calls.get(call), self.done.get(call)) {
+            (Some(call), Some(done)) => *done >= call.effects.len(),
+            _ => true,
+        }
     }
 
     // The entry of what a call does, if it is one.
     fn entry(&self, call: usize, deed: Deed, woken: Woken) -> Result<Option<Entry>, AllocError> {
-        let Some(call) = self.search.calls.get(call) else {
-            return Ok(None);
-        };
-        match deed {
-            Deed::Told(_) => self.search.told_entry(deed),
-            Deed::Claim => Ok(Some(Entry::Claim(call.task))),
-            Deed::Free => Ok(Some(Entry::Free(call.task, self.wakers(call, woken)?))),
-            Deed::Fill(value) => Ok(Some(Entry::Fill(call.task, value, self.wakers(call, woken)?))),
-            Deed::Pass => Ok(Some(Entry::Pass(call.task, self.wakers(call, woken)?))),
+        if let Deed::Told(event) = deed {
+            return self.told_entry(event);
+        }
+        match self.search.calls.get(call) {
+            Some(call) => Ok(entry_of(call.task, deed, self.wakers(call, woken)?)),
+            None => Ok(None),
+        }
+    }
+
+    // A copy of the entry that this event tells, if it tells one.
+    fn told_entry(&self, event: usize) -> Result<Option<Entry>, AllocError> {
+        match self.search.observed.events.get(event) {
+            Some(Event::Entry(entry)) => Ok(Some(copy_of(self.search.alloc, entry)?)),
+            _ => Ok(None),
         }
     }
 
     // The wakers that a call wakes so.
     fn wakers(&self, call: &Call, woken: Woken) -> Result<Vec<u64>, AllocError> {
+        let alloc = self.search.alloc;
         match woken {
-            Woken::Seen => Vec::from_slice(self.search.alloc, &call.wakers),
-            Woken::One(waker) => Vec::from_slice(self.search.alloc, &[waker]),
-            Woken::Listed => self.judge.listed(self.search.alloc, false),
-            Woken::Due => self.judge.listed(self.search.alloc, true),
+            Woken::Seen => Vec::from_slice(alloc, &call.wakers),
+            Woken::One(waker) => Vec::from_slice(alloc, &[waker]),
+            Woken::Listed => self.judge()?.listed(alloc, false),
+            Woken::Due => self.judge()?.listed(alloc, true),
         }
+    }
+}
+
+// The entry of what a task does, which wakes these wakers, unless an event tells it.
+fn entry_of(task: u64, deed: Deed, wakers: Vec<u64>) -> Option<Entry> {
+    match deed {
+        Deed::Told(_) => None,
+        Deed::Claim => Some(Entry::Claim(task)),
+        Deed::Free => Some(Entry::Free(task, wakers)),
+        Deed::Fill(value) => Some(Entry::Fill(task, value, wakers)),
+        Deed::Pass => Some(Entry::Pass(task, wakers)),
     }
 }

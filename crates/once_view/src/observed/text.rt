@@ -10,7 +10,7 @@ use std::fmt::{self, Display};
 
 /// Something that was seen of a cell from outside: by code that calls the cell, by an init that it polls, or by a waker
 /// that it wakes.
-#[derive(Debug, Drop, PartialEq, Eq)]
+#[derive(Drop, PartialEq, Eq)]
 pub enum Event {
     /// An entry of the record that can be seen: a task was made, a call began or ended, an init was polled, somebody
     /// looked, or the owner called. Where in its call it stands in the record is not seen, if it is an end.
@@ -29,6 +29,12 @@ impl fmt::Display for Event {
             Event::Woke(task, waker) => write!(f, "woke {task} {waker}"),
             Event::Woken(task) => write!(f, "woken {task}"),
         }
+    }
+}
+
+impl fmt::Debug for Event {
+    fn fmt<W: fmt::Write>(&self, f: &mut fmt::Formatter<W>) -> fmt::Result {
+        Display::fmt(self, f)
     }
 }
 
@@ -53,19 +59,34 @@ pub struct Observed {
 /// ```
 pub fn parse_observed(alloc: Global, text: &[u8]) -> Result<Observed, BadRecord> {
     let (opening, lines) = parse_first(alloc, text)?;
-    let are_wakes_seen = lines.get(1) != Some(&"wakes unseen".as_bytes());
-    let first = if are_wakes_seen { 1 } else { 2 };
-    let mut events = Vec::new(alloc);
-    for (index, bytes) in lines.iter().enumerate().skip(first) {
-        let number = (index as u64).saturating_add(1);
-        events.push(read_event(alloc, number, bytes, are_wakes_seen)?)?;
-    }
-    Ok(Observed {
+    let are_wakes_seen = !is_unseen(&lines);
+    let mut observed = Observed {
         kind: opening.kind,
         limit: opening.limit,
         are_wakes_seen,
-        events,
-    })
+        events: Vec::new(alloc),
+    };
+    observed.read(alloc, &lines)?;
+    Ok(observed)
+}
+
+// Whether the second line says that wakes are unseen.
+fn is_unseen(lines: &[&[u8]]) -> bool {
+    lines.get(1) == Some(&"wakes unseen".as_bytes())
+}
+
+impl Observed {
+    // Reads the lines of events, which come after the first one or two.
+    fn read(&mut self, alloc: Global, lines: &[&[u8]]) -> Result<(), BadRecord> {
+        let first = if self.are_wakes_seen { 1u64 } else { 2 };
+        let mut number = first;
+        for bytes in lines.iter().skip(first as usize) {
+            number = number.saturating_add(1);
+            let event = read_event(alloc, number, bytes, self.are_wakes_seen)?;
+            self.events.push(event)?;
+        }
+        Ok(())
+    }
 }
 
 // Reads the line with this number, which has to be that of an event.

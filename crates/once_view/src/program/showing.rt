@@ -1,35 +1,38 @@
 //! What the program `once_show` does: its command line, its streams and its status.
 
-use super::Source;
+use super::{Source, words_of};
 use crate::fault::Fault;
 use crate::range::LineRange;
 use crate::{Format, show_lines};
 use clap::error::{Error, ErrorKind};
 use clap::{Arg, ArgAction, ArgMatches, Command, value_parser};
-use std::alloc::{AllocGlobal, Global};
-use std::env::{self, Env};
+use std::alloc::{AllocError, AllocGlobal, Global};
+use std::env::Env;
 use std::fs::Files;
 use std::io::{self, Read};
 use std::process::ExitCode;
 
-/// The words of the command line.
-fn words_of<R: Env + AllocGlobal>(rt: &R) -> Result<Vec<String>, Fault> {
-    Ok(env::args(rt)?.collect(rt.alloc())?)
-}
-
 /// What the words of the command line say.
 fn matches_of(alloc: Global, words: &[String]) -> Result<ArgMatches<'_>, Error> {
+    let arguments = arguments(alloc)?;
     Command::new(alloc, "once_show")
         .about("Shows a script of a cell and its tasks, line by line")
-        .arg(picture_option(alloc))?
-        .arg(line_option(
-            alloc,
-            "from",
-            "Shows no line before this one; all are played",
-        ))?
-        .arg(line_option(alloc, "to", "Shows no line after this one"))?
-        .arg(script_word(alloc))?
+        .args(arguments)?
         .try_get_matches_from(words)
+}
+
+/// The options and the word of the command line.
+fn arguments(alloc: Global) -> Result<Vec<Arg<'static>>, AllocError> {
+    let (from, to) = (
+        "Shows no line before this one; all are played",
+        "Shows no line after this one",
+    );
+    Ok(vec![in alloc;
+        picture_option(alloc),
+        line_option(alloc, "from", from),
+        line_option(alloc, "to", to),
+        script_word(alloc),
+    ]?)
 }
 
 /// The option for a picture.
@@ -159,7 +162,7 @@ where
 {
     let status = match words_of(rt) {
         Ok(words) => status_of(rt, files, &words, input),
-        Err(fault) => fail(rt, Failure::Script(fault)),
+        Err(error) => fail(rt, Failure::Script(Fault::from(error))),
     };
     ExitCode::from(status)
 }

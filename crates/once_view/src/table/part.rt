@@ -87,16 +87,20 @@ fn parts_of(alloc: Global, tasks: usize, rows: &[Row]) -> Result<Vec<Part>, Allo
     let mut part = Part::first(alloc, tasks)?;
     for row in rows {
         if !part.has_room_for(row) {
-            parts.push(part)?;
+            add_part(&mut parts, part)?;
             part = Part::new(alloc);
         }
         part.add(row)?;
     }
-    parts.push(part)?;
-    for part in &mut parts {
-        part.columns.sort()?;
-    }
+    add_part(&mut parts, part)?;
     Ok(parts)
+}
+
+/// Adds a part, with its columns in the order of the tasks.
+fn add_part(parts: &mut Vec<Part>, mut part: Part) -> Result<(), AllocError> {
+    part.columns.sort()?;
+    parts.push(part)?;
+    Ok(())
 }
 
 /// A table that is shown part by part.
