@@ -197,20 +197,36 @@ fn end_beside<R: Wait + RandomSource + AllocGlobal + Clock>(
     })
 }
 
+// How it ends with memory, and how many pauses it makes.
+fn paused<R: Wait + RandomSource + AllocGlobal + Clock>(
+    rt: &R,
+    memo: &Memo<u64>,
+    turns: u64,
+) -> Result<(&'static str, u64), Fault> {
+    let by = Watched::new(rt);
+    let end = end_beside(rt, &by, memo, turns)?;
+    Ok((end, by.pauses()))
+}
+
+// How it ends at its only turn if memory is refused from some request on, and whether there was such a request.
+fn starved<R: Wait + RandomSource + AllocGlobal + Clock>(
+    rt: &R,
+    before: u64,
+) -> Result<(&'static str, bool), Fault> {
+    let memo = table(rt.alloc(), &KEYS)?;
+    let by = Watched::starving(rt, before);
+    let end = end_beside(rt, &by, &memo, 1)?;
+    Ok((end, by.has_starved()))
+}
+
 /// A future that is Pending at each of its turns makes a pause after each, and then gives up. It has just the turns
 /// that its caller gives it, and leaves the cell to the next.
 #[test]
 fn turns_are_used_up(rt: HostRuntime) -> Result<(), Fail> {
     let (memo, fetches) = (table(rt.alloc(), &KEYS)?, AtomicU64::new(0));
     for turns in [0, 1, 3, 40] {
-        let by = Watched::new(&rt);
-        let end = end_beside(&rt, &by, &memo, turns)?;
-        same(
-            &rt,
-            "the end, and the pauses",
-            (end, by.pauses()),
-            ("all turns", turns),
-        );
+        let seen = paused(&rt, &memo, turns)?;
+        same(&rt, "the end, and the pauses", seen, ("all turns", turns));
     }
     let told = value_told(&rt, &memo, &fetches, 1);
     same(
@@ -227,10 +243,8 @@ fn turns_are_used_up(rt: HostRuntime) -> Result<(), Fail> {
 fn a_refused_poll_is_told(rt: HostRuntime) -> Result<(), Fail> {
     let mut was_refused = false;
     for before in 0..10 {
-        let memo = table(rt.alloc(), &KEYS)?;
-        let by = Watched::starving(&rt, before);
-        let end = end_beside(&rt, &by, &memo, 1)?;
-        let is_told = by.has_starved() == (end == "refused" || end == "no task");
+        let (end, has_starved) = starved(&rt, before)?;
+        let is_told = has_starved == (end == "refused" || end == "no task");
         let seen = (before, is_told, end == "otherwise");
         same(
             &rt,
