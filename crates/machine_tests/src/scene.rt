@@ -53,19 +53,26 @@ struct Scene<'a, 'r, R: Wait + AllocGlobal> {
 /// Plays each scene of a text, and compares what its lines come to with what stands beside them. What a line without
 /// `=>` comes to is not told.
 pub fn play<R: Wait + AllocGlobal + RandomSource>(rt: &R, text: &str) -> Result<(), Fail> {
-    let alloc = rt.alloc();
-    for schedule in &schedules_in(alloc, text)? {
-        let cell = Cell::new();
-        let mut scene = Scene {
-            cell: &cell,
-            rt,
-            walkers: BTreeMap::new(alloc),
-            callers: BTreeMap::new(alloc),
-            meddler: None,
-        };
-        check(&mut scene, schedule)?;
+    for schedule in &schedules_in(rt.alloc(), text)? {
+        play_one(rt, schedule)?;
     }
     Ok(())
+}
+
+// Plays a scene, on a cell of its own.
+fn play_one<R: Wait + AllocGlobal + RandomSource>(
+    rt: &R,
+    schedule: &Schedule<'_>,
+) -> Result<(), Fail> {
+    let (alloc, cell) = (rt.alloc(), Cell::new());
+    let mut scene = Scene {
+        cell: &cell,
+        rt,
+        walkers: BTreeMap::new(alloc),
+        callers: BTreeMap::new(alloc),
+        meddler: None,
+    };
+    check(&mut scene, schedule)
 }
 
 fn check<R: Wait + AllocGlobal + RandomSource>(
