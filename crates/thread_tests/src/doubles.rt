@@ -1,7 +1,5 @@
-//! Inits that keep their thread, inits that take several polls, and where threads meet.
+//! Values and inits that are counted, what a thread does with a cell, and where threads meet.
 
-pub mod meeting;
-pub mod slow;
-
-/// The answer of an init that may fail.
-pub type Tried = Result<u64, u64>;
+pub mod asked;
+pub mod counted;
+pub mod work;

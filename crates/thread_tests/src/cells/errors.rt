@@ -1,160 +1,118 @@
 //! Inits that fail while another waits, which then fills the cell at once.
-ghost use Rattle.std.specs.Prelude.{◌≡◌, false};
 
-use crate::doubles::meeting::meet;
+use crate::doubles::asked::told;
+use crate::doubles::work::{Gate, Host, Hosts, Meeting, Work, by_threads, same};
 use async_once_cell::once::TryInitFuture;
 use async_once_cell::record::Reply;
 use async_once_cell::{OnceCell, Parker};
 use futures::Future;
 use futures::future::ready;
-use futures::task::{Context, Poll};
 use futures::test::MockTask;
 use machine_tests::doubles::left::is_filled;
-use machine_tests::doubles::poll::heard;
-use std::alloc::AllocGlobal;
+use machine_tests::doubles::poll::{heard, polled};
+use std::alloc::AllocError;
 use std::io;
-use std::random::RandomSource;
-use std::sync::Wait;
-use std::sync::atomic::{AtomicU64, Ordering};
 use std::test::Fail;
-use std::thread::{self, Threads};
 
 const CELLS: u64 = 300;
 
 // How often two threads are started anew: if they share a processor they do not meet.
 const REPEATS: u64 = 6;
 
-// A cell, and how often its two threads met while the init that fails was being polled.
+// A cell, and where its two threads meet while the init that fails is being polled.
 #[derive(Drop)]
-struct Failing {
+struct Met {
     cell: OnceCell<u64>,
-    arrived: AtomicU64,
+    meeting: Meeting,
 }
 
-// An init that fails once the other thread waits.
-#[derive(Drop)]
-struct FailsLate<'a> {
-    arrived: &'a AtomicU64,
-}
-
-impl Future for FailsLate<'_> {
-    type Output = Result<u64, u64>;
-
-    fn poll(&mut self, _cx: &mut Context<'_>) -> Poll<Result<u64, u64>> {
-        meet_in_init(self.arrived, 2);
-        meet_in_init(self.arrived, 4);
-        Poll::Ready(Err(9))
-    }
-}
-
-// Waits until so many came, but not for ever: an init keeps no handle.
-fn meet_in_init(arrived: &AtomicU64, all: u64) {
-    arrived.fetch_add(1, Ordering::SeqCst);
-    for _ in 0..100_000_000 {
-        if arrived.load(Ordering::SeqCst) >= all {
-            break;
-        }
-        thread::yield_now();
-    }
-}
-
-// What a future of a cell answers that is polled by this task.
-fn polled<R>(
+// What a future that fails answers a task.
+fn polled_once<R: Host>(
     task: &MockTask,
-    mut future: TryInitFuture<'_, u64, u64, FailsLate<'_>, R>,
-) -> Option<Reply>
-where
-    R: Wait + AllocGlobal,
-{
-    Some(task.enter(|cx| heard(Future::poll(&mut future, cx))))
+    mut future: TryInitFuture<'_, u64, u64, Gate<'_>, R>,
+) -> Reply {
+    task.enter(|cx| heard(Future::poll(&mut future, cx)))
 }
 
-// What a thread answers that waits for one.
-fn waited<R>(future: TryInitFuture<'_, u64, u64, FailsLate<'_>, R>) -> Option<Reply>
-where
-    R: Wait + AllocGlobal + RandomSource,
-    requires { future.finished ≡ false }
-{
-    Some(heard(Poll::Ready(future.wait().ok()?)))
-}
-
-// The same by a parker that it keeps.
-fn waited_on<R>(
-    parker: &mut Parker,
-    future: TryInitFuture<'_, u64, u64, FailsLate<'_>, R>,
-) -> Option<Reply>
-where
-    R: Wait + AllocGlobal,
-    requires { future.finished ≡ false }
-{
-    Some(heard(Poll::Ready(future.wait_on(parker).ok()?)))
-}
-
-// Brings an init that fails to each cell, and asks in each way in turn: how many times it was told that error.
-fn fails<R>(rt: &R, task: &MockTask, parker: &mut Parker, cells: &[Failing]) -> u64
-where
-    R: Wait + AllocGlobal + RandomSource,
-{
-    let mut told = 0u64;
-    for (number, Failing { cell, arrived }) in cells.iter().enumerate() {
-        let future = cell.get_or_try_init(rt, FailsLate { arrived });
-        let reply = match number % 3 {
-            0 => polled(task, future),
-            1 => waited(future),
-            _ => waited_on(parker, future),
-        };
-        if reply == Some(Reply::Error(9)) {
-            told = told.saturating_add(1);
+impl Met {
+    // Brings an init that fails, and asks in a way that depends on the number: what it is told.
+    fn fails<R: Host>(
+        &self,
+        rt: &R,
+        task: &MockTask,
+        parker: &mut Parker,
+        number: u64,
+    ) -> Option<Reply> {
+        let (meeting, answer) = (&self.meeting, Err(9));
+        let future = self.cell.get_or_try_init(rt, Gate { meeting, answer });
+        match number % 3 {
+            0 => Some(polled_once(task, future)),
+            1 => told(future.wait()),
+            _ => told(future.wait_on(parker)),
         }
     }
-    told
-}
 
-// Waits at each cell while the init of the other is polled, and then fills it as soon as it may.
-fn fills<R: Wait + AllocGlobal>(rt: &R, task: &MockTask, cells: &[Failing]) {
-    for Failing { cell, arrived } in cells {
-        let mut future = cell.get_or_init(rt, ready(4));
-        meet(rt, arrived, 2, 0);
-        let mut is_filled = task.poll(&mut future).is_ready();
-        meet(rt, arrived, 2, 1);
+    // Waits while the init of the other is polled, and then fills the cell as soon as it may: what it is told.
+    fn fills<R: Host>(&self, rt: &R, task: &MockTask) -> Reply {
+        let mut future = self.cell.get_or_init(rt, ready(4));
+        if !self.meeting.has(1) {
+            return Reply::Pending;
+        }
+        let mut reply = polled(task, &mut future);
+        self.meeting.come();
         for _ in rt.forever() {
-            if is_filled {
+            if reply != Reply::Pending {
                 break;
             }
-            is_filled = task.poll(&mut future).is_ready();
+            reply = polled(task, &mut future);
         }
+        reply
     }
 }
 
-// How many times the error was told, and whether all cells are filled then.
-fn told<R>(rt: &R, (first, second): (&MockTask, &MockTask)) -> io::Result<(u64, bool)>
-where
-    R: Wait + AllocGlobal + RandomSource + Threads + Sync,
-{
-    let (mut parker, mut cells) = (Parker::new(rt)?, Vec::new(rt.alloc()));
-    for _ in 0..CELLS {
-        cells.push(Failing {
-            cell: OnceCell::new(),
-            arrived: AtomicU64::new(0),
-        })?;
+// Cells that one thread fails to fill, and another fills.
+#[derive(Drop)]
+struct Errors(Vec<Met>);
+
+impl Work for Errors {
+    fn goes<R: Host>(&self, rt: &R, task: &MockTask, parker: &mut Parker, thread: u64) -> u64 {
+        let mut well = 0u64;
+        for (number, met) in (0u64..).zip(&self.0) {
+            let is_told = if thread == 0 {
+                met.fails(rt, task, parker, number) == Some(Reply::Error(9))
+            } else {
+                met.fills(rt, task) == Reply::Value(4)
+            };
+            well = well.wrapping_add(u64::from(is_told));
+        }
+        well
     }
-    let (told, ()) = thread::join(
-        rt,
-        || fails(rt, first, &mut parker, &cells),
-        || fills(rt, second, &cells),
-    );
-    let are_filled = cells.iter().all(|it| is_filled(rt, &it.cell));
-    Ok((told, are_filled))
+}
+
+fn all_cells<R: Host>(rt: &R) -> Result<Errors, AllocError> {
+    let mut cells = Vec::new(rt.alloc());
+    for _ in 0..CELLS {
+        let (cell, meeting) = (OnceCell::new(), Meeting::new());
+        cells.push(Met { cell, meeting })?;
+    }
+    Ok(Errors(cells))
+}
+
+// How often each was told what it has to be, and how many cells are filled.
+fn seen<R: Hosts>(rt: &R) -> io::Result<[u64; 2]> {
+    let errors = all_cells(rt)?;
+    let (went, mut filled) = (by_threads(rt, 2, &errors)?, 0u64);
+    for met in &errors.0 {
+        filled = filled.wrapping_add(u64::from(is_filled(rt, &met.cell)));
+    }
+    Ok([went, filled])
 }
 
 /// A caller whose init failed is told its error in whatever way it asks, also if another fills the cell meanwhile.
 #[test]
 fn own_error_beside_a_value(rt: HostRuntime) -> Result<(), Fail> {
-    let (first, second) = (MockTask::new(&rt)?, MockTask::new(&rt)?);
-    let mut is_always = true;
     for _ in 0..REPEATS {
-        is_always &= told(&rt, (&first, &second))? == (CELLS, true);
+        same(&rt, "own error", seen(&rt)?, [CELLS * 2, CELLS]);
     }
-    assert!(rt; is_always);
     Ok(())
 }

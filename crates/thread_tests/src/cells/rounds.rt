@@ -1,166 +1,135 @@
 //! Threads that use one cell in rounds. Between two of them its owner looks at all that is left.
 
-use crate::doubles::Tried;
-use crate::doubles::slow::{Slow, ended, left_midway};
-use async_once_cell::OnceCell;
+use crate::doubles::asked::{Asked, Cell, Way};
+use crate::doubles::counted::{Tally, Value, empty, tallies};
+use crate::doubles::work::{Host, Hosts, Work, by_threads, same};
 use async_once_cell::record::Reply;
+use async_once_cell::{OnceCell, Parker};
 use futures::test::MockTask;
-use machine_tests::doubles::left::{is_filled, is_free};
-use machine_tests::doubles::poll::tasks;
 use rand_core::{Rng, SeedableRng};
 use rand_xoshiro::Xoshiro256PlusPlus;
-use std::alloc::{AllocError, AllocGlobal};
 use std::io;
 use std::mem::replace;
-use std::random::RandomSource;
-use std::sync::Wait;
-use std::sync::atomic::{AtomicU64, Ordering};
 use std::test::Fail;
-use std::thread::{self, Threads};
-use std::time::Clock;
 
 const ROUNDS: u64 = 300;
 
 // How many futures a thread makes in a round, one after another.
 const TURNS: u64 = 4;
 
-// What is known of a round.
+// What threads do in a round.
 #[derive(Drop)]
-struct Round {
+struct Round<'c> {
+    asked: Asked<'c>,
+    number: u64,
+    // The value that the cell had before the round.
+    before: Option<u64>,
+}
+
+impl Work for Round<'_> {
+    fn goes<R: Host>(&self, rt: &R, task: &MockTask, parker: &mut Parker, thread: u64) -> u64 {
+        let seed = self.number.wrapping_mul(8).wrapping_add(thread);
+        let (mut random, mut well) = (Xoshiro256PlusPlus::seed_from_u64(seed), 0u64);
+        for _ in 0..TURNS {
+            let is_used = self.is_used(rt, task, parker, random.next_u64());
+            well = well.wrapping_add(u64::from(is_used));
+        }
+        well
+    }
+}
+
+impl<'c> Round<'c> {
     // What a future answers that answers a value.
-    value: u64,
-    // Whether some inits give the value.
-    gives: bool,
-    // How many inits gave it, and how many failed.
-    made: AtomicU64,
-    failed: AtomicU64,
-}
+    fn value(&self) -> u64 {
+        self.before.unwrap_or(self.number)
+    }
 
-impl Round {
-    fn new(value: u64, gives: bool) -> Self {
-        Round {
-            value,
-            gives,
-            made: AtomicU64::new(0),
-            failed: AtomicU64::new(0),
+    // Makes a future, and polls it to its end or drops it midway: whether it answered as it may. Its init is Pending up
+    // to twice. In two of three rounds each other init gives the value.
+    fn is_used<R: Host>(&self, rt: &R, task: &MockTask, parker: &mut Parker, turn: u64) -> bool {
+        let gives = self.number % 3 > 0 && turn.is_multiple_of(2);
+        let leaves = turn / 2 % 2 == 0;
+        let answer = if gives { Ok(self.value()) } else { Err(turn) };
+        let way = if leaves { Way::Leave(3) } else { Way::Drive };
+        let init = self.asked.tally.init(turn / 4 % 3, 0, answer);
+        match self.asked.asked(rt, task, parker, init, way) {
+            Some(Reply::Value(value)) => value == self.value(),
+            Some(Reply::Error(error)) => error == turn && !gives,
+            reply => leaves && reply == Some(Reply::Pending),
         }
     }
 
-    // An init that is Pending up to two times.
-    fn init(&self, turn: u64) -> Slow<'_, Tried> {
-        let pending = turn / 4 % 3;
-        if self.gives && turn.is_multiple_of(2) {
-            return Slow {
-                pending,
-                answer: Ok(self.value),
-                done: &self.made,
-            };
-        }
-        Slow {
-            pending,
-            answer: Err(turn),
-            done: &self.failed,
-        }
+    // Whether the cell is as the round left it: it has the value, which one init gave or which it had before, or it is
+    // free.
+    fn is_settled<R: Host>(&self, rt: &R) -> bool {
+        let (has, tally, was_set) = (self.asked.has(), self.asked.tally, self.before.is_some());
+        let made = u64::from(has.is_some() && !was_set);
+        let kept = if made > 0 {
+            Some(self.number)
+        } else {
+            self.before
+        };
+        let is_counted = tally.has(made, made) && (!was_set || tally.failed() == 0);
+        has == kept && is_counted && self.asked.is_left(rt, has.is_some())
     }
-}
 
-// Makes a future, and polls it to its end, or drops it midway: whether it answered as it may.
-fn is_used<R>(rt: &R, cell: &OnceCell<u64>, round: &Round, task: &MockTask, turn: u64) -> bool
-where
-    R: Wait + AllocGlobal + Clock,
-{
-    let mut future = cell.get_or_try_init(rt, round.init(turn));
-    if turn / 2 % 2 == 0 {
-        left_midway(rt, task, future);
-        return true;
-    }
-    match ended(rt, task, &mut future) {
-        Reply::Value(value) => value == round.value,
-        Reply::Error(error) => error == turn,
-        _ => false,
-    }
-}
-
-// Uses the cell in so many threads, each with a task of its own: whether all of it ended as it may.
-fn are_used<R>(
-    rt: &R,
-    cell: &OnceCell<u64>,
-    round: &Round,
-    tasks: &[MockTask],
-    seed: u64,
-) -> Result<bool, AllocError>
-where
-    R: Wait + AllocGlobal + Clock + Threads + Sync,
-{
-    let work = |thread: usize| {
-        let Some(task) = tasks.get(thread) else {
+    // A call of the owner, or none: whether it finds the value that the cell lends.
+    fn is_found(&mut self) -> bool {
+        let (lent, tally) = (self.asked.has(), self.asked.tally);
+        let Cell::Try(cell) = &mut self.asked.cell else {
             return false;
         };
-        let seed = seed.wrapping_mul(8).wrapping_add(thread as u64);
-        let (mut random, mut is_well) = (Xoshiro256PlusPlus::seed_from_u64(seed), true);
-        for _ in 0..TURNS {
-            is_well &= is_used(rt, cell, round, task, random.next_u64());
-        }
-        is_well
-    };
-    let used = thread::map_indices(rt, rt.alloc(), tasks.len(), &work)?;
-    Ok(used.iter().all(|is_well| *is_well))
-}
-
-// Whether the cell is as the round left it: it has the value, which one init gave or which it had before, or
-// it is free.
-fn is_settled<R>(rt: &R, cell: &OnceCell<u64>, round: &Round, was_set: bool) -> bool
-where
-    R: AllocGlobal,
-{
-    let value = cell.get().copied();
-    let made = round.made.load(Ordering::SeqCst);
-    let failed = round.failed.load(Ordering::SeqCst);
-    let has_it = is_filled(rt, cell) && value == Some(round.value);
-    if was_set {
-        return has_it && made == 0 && failed == 0;
-    }
-    match made {
-        0 => is_free(rt, cell) && value.is_none(),
-        1 => has_it,
-        _ => false,
+        let found = match self.number % 5 {
+            0 => number_of(cell.take()),
+            1 => cell.get_mut().map(|value| value.number),
+            2 => number_of(replace(
+                cell,
+                OnceCell::new_with(tally.value(self.number)),
+            ).into_inner()),
+            3 => number_of(replace(cell, OnceCell::new()).into_inner()),
+            _ => lent,
+        };
+        found == lent
     }
 }
 
-// A call of the owner, or none: whether it finds the value that the cell lends.
-fn is_found(cell: &mut OnceCell<u64>, turn: u64) -> bool {
-    let lent = cell.get().copied();
-    match turn % 5 {
-        0 => cell.take() == lent,
-        1 => cell.get_mut().copied() == lent,
-        2 => replace(cell, OnceCell::new_with(turn)).into_inner() == lent,
-        3 => replace(cell, OnceCell::new()).into_inner() == lent,
-        _ => true,
-    }
+fn number_of(found: Option<Value<'_>>) -> Option<u64> {
+    Some(found?.number)
 }
 
-// The first round of so many threads that did not end as it should.
-fn first_bad<R>(rt: &R, threads: usize) -> io::Result<Option<u64>>
-where
-    R: Wait + AllocGlobal + Clock + Threads + RandomSource + Sync,
-{
-    let (tasks, mut cell) = (tasks(rt, threads)?, OnceCell::new());
-    for number in 0..ROUNDS {
-        let value = cell.get().copied();
-        let round = Round::new(value.unwrap_or(number), number % 3 > 0);
-        let are_used = are_used(rt, &cell, &round, &tasks, number)?;
-        let is_settled = is_settled(rt, &cell, &round, value.is_some());
-        if !are_used || !is_settled || !is_found(&mut cell, number) {
+// The first round of so many threads that did not end as it should. The cell is dropped then.
+fn first_bad<R: Hosts>(rt: &R, threads: u64, tallies: &[Tally]) -> io::Result<Option<u64>> {
+    let mut cell = Cell::Try(OnceCell::new());
+    for (number, tally) in (0..).zip(tallies) {
+        let asked = Asked { cell, tally };
+        let before = asked.has();
+        let mut round = Round {
+            asked,
+            number,
+            before,
+        };
+        let went = by_threads(rt, threads, &round)?;
+        let is_well = went == threads.wrapping_mul(TURNS);
+        if !is_well || !round.is_settled(rt) || !round.is_found() {
             return Ok(Some(number));
         }
+        cell = round.asked.cell;
     }
     Ok(None)
+}
+
+// The same, and how many rounds left no value then.
+fn seen<R: Hosts>(rt: &R, threads: u64) -> io::Result<(Option<u64>, u64)> {
+    let tallies = tallies(rt.alloc(), ROUNDS, 0)?;
+    let bad = first_bad(rt, threads, tallies.as_slice())?;
+    Ok((bad, empty(&tallies)))
 }
 
 /// After each round of two to four threads the cell is free or filled. Each waiter that was not dropped was woken.
 #[test]
 fn rounds_leave_nothing(rt: HostRuntime) -> Result<(), Fail> {
-    let bad = [first_bad(&rt, 2)?, first_bad(&rt, 3)?, first_bad(&rt, 4)?];
-    assert_eq!(rt; bad, [None; 3]);
+    for threads in 2..=4 {
+        same(&rt, "round", seen(&rt, threads)?, (None, ROUNDS));
+    }
     Ok(())
 }
