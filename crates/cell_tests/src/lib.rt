@@ -6,8 +6,6 @@ mod doubles;
 #[cfg(test)]
 mod lazy;
 #[cfg(test)]
-mod left;
-#[cfg(test)]
 mod once;
 #[cfg(test)]
 mod paths;

@@ -1,43 +1,31 @@
 //! Holders whose inits are Pending and ask for nothing.
 
-use crate::doubles::poll::polled_once;
-use crate::doubles::same;
-use async_once_cell::record::Reply;
-use async_once_cell::{Lazy, OnceCell};
-use futures::future::pending;
-use futures::test::MockTask;
-use std::test::Fail;
+use crate::doubles::schedule::run;
 
-/// The task of a holder is not woken while its init asks for nothing.
-#[test]
-fn pending_holder_is_not_called(rt: HostRuntime) -> Result<(), Fail> {
-    let (cell, task) = (OnceCell::new(), MockTask::new(&rt)?);
-    let told = polled_once(&task, cell.get_or_init(&rt, pending::<u64>()));
-    same(&rt, "told", told, (Reply::Pending, false));
-    Ok(())
-}
+// An init that is dropped lets its waker go, which wakes its task.
+const SCHEDULES: &str = "\
+# holder: the task of a holder is not woken while its init asks for nothing
+init 0
+poll 0 s => pending
+show => OnceCell { value: None, inner: Inner { ready: false, quick_init: true, refcount: 0, queue: false } }
 
-/// The same of a cell that owns its init.
-#[test]
-fn pending_lazy_holder_is_not_called(rt: HostRuntime) -> Result<(), Fail> {
-    let (lazy, task) = (Lazy::new(pending::<u64>()), MockTask::new(&rt)?);
-    let told = polled_once(&task, lazy.get(&rt));
-    same(&rt, "told", told, (Reply::Pending, false));
-    Ok(())
-}
+# lazy_holder: the same of a cell that owns its init
+get 0
+poll 0 s => pending
+lazy => (None, Lazy { value: None, inner: Inner { ready: false, quick_init: true, refcount: 0, queue: false } })
 
-/// The same of a holder that waited before.
+# holder_that_waited: the same of a holder that waited before
+0..2 * init n
+poll 0 s => pending
+poll 1 s => pending
+drop 0 => so, wakes 0 to 1
+poll 1 s => pending
+inits => 2 polls, 1 drops
+
+# holder_with_a_token: the same of a poll with a token
+ask s => pending, Known(None), 0 drops";
+
 #[test]
-fn pending_holder_that_waited_is_not_called(rt: HostRuntime) -> Result<(), Fail> {
-    let (one, two) = (MockTask::new(&rt)?, MockTask::new(&rt)?);
-    let cell = OnceCell::new();
-    let mut holder = cell.get_or_init(&rt, pending::<u64>());
-    let mut waiter = cell.get_or_init(&rt, pending::<u64>());
-    let are_pending = one.poll(&mut holder).is_pending() && two.poll(&mut waiter).is_pending();
-    drop(holder);
-    let is_called = two.is_woken();
-    let holds = two.poll(&mut waiter).is_pending();
-    let told = ([are_pending, is_called, holds], two.is_woken());
-    same(&rt, "told", told, ([true; 3], false));
-    Ok(())
+fn holders_are_not_called(rt: HostRuntime) {
+    run(&rt, SCHEDULES);
 }

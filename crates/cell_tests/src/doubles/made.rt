@@ -13,7 +13,8 @@ use std::alloc::{AllocError, AllocGlobal, Global};
 use std::fmt;
 use std::sync::Wait;
 
-fn text<T: fmt::Debug>(alloc: Global, value: &T) -> Result<String, AllocError> {
+/// The Debug text of a value.
+pub fn text_of<T: fmt::Debug>(alloc: Global, value: &T) -> Result<String, AllocError> {
     format!(in alloc; "{value:?}")
 }
 
@@ -23,7 +24,7 @@ fn lazy_text<F: Future, R: Wait + AllocGlobal>(
     alloc: Global,
     future: &LazyFuturePin<'_, u64, F, R>,
 ) -> Result<String, AllocError> {
-    text(alloc, future)
+    text_of(alloc, future)
 }
 
 /// A future of a cell, by the kind of its init.
@@ -49,6 +50,14 @@ impl<R: Wait + AllocGlobal> Made<'_, '_, '_, R> {
         (reply, self.is_finished())
     }
 
+    /// Polls it, if its task was woken and it is not done. Whether it is done then.
+    pub fn is_settled(&mut self, task: &MockTask) -> bool {
+        if task.is_woken() && !self.is_finished() {
+            self.polled(task);
+        }
+        self.is_finished()
+    }
+
     /// Whether the future is done.
     pub fn is_finished(&self) -> bool {
         match self {
@@ -70,8 +79,8 @@ impl<R: Wait + AllocGlobal> Made<'_, '_, '_, R> {
     /// The Debug text of the future.
     pub fn shown(&self, alloc: Global) -> Result<String, AllocError> {
         match self {
-            Made::Sure(future) => text(alloc, future),
-            Made::Trying(future) => text(alloc, future),
+            Made::Sure(future) => text_of(alloc, future),
+            Made::Trying(future) => text_of(alloc, future),
             Made::Lazily(future) => lazy_text(alloc, future),
         }
     }

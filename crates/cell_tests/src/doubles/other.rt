@@ -7,7 +7,7 @@ use async_once_cell::OnceCell;
 use async_once_cell::once::InitFuture;
 use async_once_cell::record::Reply;
 use futures::Future;
-use futures::task::{Context, Poll};
+use futures::task::{Context, Poll, Waker};
 use futures::test::MockTask;
 use std::alloc::AllocGlobal;
 use std::cell::Cell;
@@ -103,6 +103,7 @@ pub struct Meddling<'o, 'a, O: Copy, R: Wait + AllocGlobal> {
     acts: &'o str,
     // What it does when it is dropped.
     last: &'o str,
+    waker: Option<Waker>,
 }
 
 impl<'o, 'a, O: Copy, R: Wait + AllocGlobal> Meddling<'o, 'a, O, R> {
@@ -117,6 +118,7 @@ impl<'o, 'a, O: Copy, R: Wait + AllocGlobal> Meddling<'o, 'a, O, R> {
             stub,
             acts,
             last,
+            waker: None,
         }
     }
 }
@@ -130,7 +132,7 @@ impl<O: Copy, R: Wait + AllocGlobal> Future for Meddling<'_, '_, O, R> {
         self.other.obey(act);
         match self.stub.asked() {
             Some(answer) => Poll::Ready(answer),
-            None => cx.yield_now(),
+            None => self.stub.pending(cx, &mut self.waker),
         }
     }
 }
@@ -142,6 +144,7 @@ impl<O: Copy, R: Wait + AllocGlobal> Drop for Meddling<'_, '_, O, R> {
             stub,
             acts: _,
             last,
+            waker: _,
         } = self;
         count(&stub.drops);
         other.obey(last);

@@ -6,12 +6,12 @@
 //! dropped, and `found` says whether that showed TEXT. `drop T` and `forget T` put an end to future T, and `leave T`
 //! calls its `leave`.
 //!
-//! `poll T A` polls it by task T, `poll T A W` by task W; if its init is polled, it answers A: `p`,
-//! `v` with a value, or `e` with an error. `show` and `lazy` are the Debug texts of the cells, `future T`
-//! that of a future, and `inits` how often inits were polled and dropped. After `starve` every request
-//! for memory is refused while a line is obeyed. After `=>` stands what the poll answered, whether the
-//! future is done, and the tasks that were woken since the line before. An init that is Pending asks for
-//! another poll of its task, which counts as a wake.
+//! `poll T A` polls it by task T, `poll T A W` by task W; if its init is polled, it answers A: `v` with a value, `e`
+//! with an error, `p` if it is Pending and asks for another poll of its task, which counts as a wake, or `s` if it is
+//! Pending and asks for nothing. `show` and `lazy` are the Debug texts of the cells, `future T` that of a future, and
+//! `inits` how often inits were polled and dropped. After `starve` every request for memory is refused while a line is
+//! obeyed. After `=>` stands what the poll answered, whether the future is done, and the tasks that were woken since
+//! the line before.
 //!
 //! Task 1 has one other future of the `OnceCell`, whose init is Pending once and then gives 4. `other` polls it.
 //! `uses T PLAN` makes a future as `try T` does, whose init does something to the other one, as `Meddling` says: a word
@@ -31,9 +31,10 @@ mod little;
 mod refusals;
 mod scene;
 
-use crate::doubles::made::Made;
+use crate::doubles::made::{Made, text_of};
 use crate::doubles::other::Other;
-use crate::doubles::stub::{Init, Tried};
+use crate::doubles::same;
+use crate::doubles::stub::Init;
 use async_once_cell::{Lazy, OnceCell};
 pub use little::run_in_little;
 use machine_tests::doubles::memory::hoard;
@@ -41,9 +42,9 @@ pub use refusals::refuse_each;
 use scene::{Inits, Outcome, Scene, Tasks};
 use std::alloc::{AllocError, AllocGlobal, Global};
 use std::mem;
+use std::process::Abort;
 use std::random::RandomSource;
 use std::sync::Wait;
-use std::test::Fail;
 
 // How many futures and tasks a schedule has, which are numbered from 0: one more than its greatest number, and two at
 // least.
@@ -67,7 +68,12 @@ struct Schedule<'o, 'a, 'i, R: Wait + AllocGlobal> {
 }
 
 impl<'o, 'a: 'o, 'i: 'o, R: Wait + AllocGlobal> Schedule<'o, 'a, 'i, R> {
-    fn new(scene: Scene<'o, 'a, 'i, R>, futures: Vec<Option<Made<'o, 'a, 'i, R>>>) -> Self {
+    // One with a place for a future of each task, all empty.
+    fn begun(scene: Scene<'o, 'a, 'i, R>) -> Self {
+        let mut futures = Vec::new(scene.rt.alloc());
+        for _ in 0..scene.tasks.tasks.len() {
+            let _ = futures.push(None);
+        }
         Schedule {
             scene,
             futures,
@@ -76,37 +82,12 @@ impl<'o, 'a: 'o, 'i: 'o, R: Wait + AllocGlobal> Schedule<'o, 'a, 'i, R> {
         }
     }
 
-    fn run(&mut self, name: &str, lines: &'o str) -> Result<(), Fail> {
-        for line in lines.lines() {
-            self.run_line(name, line)?;
-        }
-        Ok(())
-    }
-
-    fn run_line(&mut self, name: &str, line: &'o str) -> Result<(), Fail> {
-        let (order, wanted) = line.split_once(" => ").unwrap_or((line, "so"));
-        let (turns, order) = order.split_once(" * ").unwrap_or(("1", order));
-        let Some((from, to)) = turns_in(turns) else {
-            return Err(Fail::new(format_args!("{line} in {name} can't be read")));
-        };
-        for turn in from..to {
-            self.turn = turn;
-            self.follow(name, order, wanted)?;
-        }
-        Ok(())
-    }
-
     // `n` stands for the turn, and whatever is no number for one that no future has.
     fn number(&self, text: &str) -> usize {
         if text == "n" {
             return self.turn;
         }
         text.parse::<usize>().unwrap_or(usize::MAX)
-    }
-
-    fn follow(&mut self, name: &str, order: &'o str, wanted: &str) -> Result<(), Fail> {
-        let text = self.obey(order);
-        compare(name, order, text, wanted)
     }
 
     // What a line leads to.
@@ -119,16 +100,8 @@ impl<'o, 'a: 'o, 'i: 'o, R: Wait + AllocGlobal> Schedule<'o, 'a, 'i, R> {
             "found" => self.scene.found(),
             "future" => self.shown(rest),
             "look" => self.scene.looked(),
-            "ask" | "know" => {
-                self.scene.inits.set(answer_in(rest));
-                self.scene.asked(word == "know")
-            }
-            _ => {
-                let hoarded = hoarded(self.scene.rt.alloc(), self.starves)?;
-                let outcome = self.act(word, rest);
-                drop(hoarded);
-                self.scene.written(outcome)
-            }
+            "ask" | "know" => self.scene.asked(word == "know", rest),
+            _ => self.acted(word, rest),
         }
     }
 
@@ -136,35 +109,39 @@ impl<'o, 'a: 'o, 'i: 'o, R: Wait + AllocGlobal> Schedule<'o, 'a, 'i, R> {
         let alloc = self.scene.rt.alloc();
         match self.futures.get(self.number(number)) {
             Some(Some(future)) => future.shown(alloc),
-            _ => format!(in alloc; "no future"),
+            _ => text_of(alloc, &"no future"),
         }
     }
 
+    // What a line of a future leads to, without memory if the schedule starves.
+    fn acted(&mut self, word: &str, rest: &'o str) -> Result<String, AllocError> {
+        let hoarded = hoarded(self.scene.rt.alloc(), self.starves)?;
+        let outcome = self.act(word, rest);
+        drop(hoarded);
+        self.scene.written(outcome)
+    }
+
     fn act(&mut self, word: &str, rest: &'o str) -> Outcome {
+        let (number, rest) = rest.split_once(' ').unwrap_or((rest, ""));
+        let number = self.number(number);
         match word {
             "starve" => {
                 self.starves = true;
                 Outcome::Obeyed
             }
-            "poll" => self.poll(rest),
+            "poll" => self.poll(number, rest),
             "other" => match self.scene.other.poll() {
                 Some(reply) => Outcome::Polled(reply, false),
                 None => Outcome::Unreadable,
             },
-            "leave" => self.leave(rest),
-            "forget" => self.forget(rest),
-            _ => self.make(word, rest),
+            "leave" => self.leave(number),
+            "forget" => self.forget(number),
+            _ => self.make(number, word, rest),
         }
     }
 
-    // The future with this number, or None in its place. No answer says that no future can have the number.
-    fn future(&mut self, number: &str) -> Option<&mut Option<Made<'o, 'a, 'i, R>>> {
-        let number = self.number(number);
-        self.futures.get_mut(number)
-    }
-
-    fn leave(&mut self, number: &str) -> Outcome {
-        match self.future(number) {
+    fn leave(&mut self, number: usize) -> Outcome {
+        match self.futures.get_mut(number) {
             Some(Some(future)) => {
                 future.leave();
                 Outcome::Obeyed
@@ -173,8 +150,8 @@ impl<'o, 'a: 'o, 'i: 'o, R: Wait + AllocGlobal> Schedule<'o, 'a, 'i, R> {
         }
     }
 
-    fn forget(&mut self, number: &str) -> Outcome {
-        match self.future(number) {
+    fn forget(&mut self, number: usize) -> Outcome {
+        match self.futures.get_mut(number) {
             Some(future) => {
                 mem::forget(future.take());
                 Outcome::Obeyed
@@ -184,10 +161,9 @@ impl<'o, 'a: 'o, 'i: 'o, R: Wait + AllocGlobal> Schedule<'o, 'a, 'i, R> {
     }
 
     // Makes a future in the place of the one with this number, or drops that.
-    fn make(&mut self, word: &str, rest: &'o str) -> Outcome {
-        let (number, wanted) = rest.split_once(' ').unwrap_or((rest, ""));
-        let made = self.scene.made(word, wanted);
-        match self.future(number) {
+    fn make(&mut self, number: usize, word: &str, plan: &'o str) -> Outcome {
+        let made = self.scene.made(word, plan);
+        match self.futures.get_mut(number) {
             Some(future) => {
                 *future = made;
                 Outcome::Obeyed
@@ -196,14 +172,14 @@ impl<'o, 'a: 'o, 'i: 'o, R: Wait + AllocGlobal> Schedule<'o, 'a, 'i, R> {
         }
     }
 
-    // `T A` or `T A W`: polls future T by the task of its number or by task W. An init that is polled
-    // then answers A.
-    fn poll(&mut self, text: &str) -> Outcome {
-        let (number, rest) = text.split_once(' ').unwrap_or((text, ""));
-        let (answer, task) = rest.split_once(' ').unwrap_or((rest, number));
-        let (number, task) = (self.number(number), self.number(task));
+    // Polls a future, by `A` or `A W`: by the task of its number or by task W. An init that is polled then answers A.
+    fn poll(&mut self, number: usize, text: &str) -> Outcome {
+        let (answer, task) = match text.split_once(' ') {
+            Some((answer, task)) => (answer, self.number(task)),
+            None => (text, number),
+        };
         let (inits, tasks) = (self.scene.inits, self.scene.tasks);
-        inits.set(answer_in(answer));
+        inits.tell(answer);
         match (self.futures.get_mut(number), tasks.tasks.get(task)) {
             (Some(Some(future)), Some(task)) => {
                 let (reply, is_done) = future.polled(task);
@@ -214,10 +190,30 @@ impl<'o, 'a: 'o, 'i: 'o, R: Wait + AllocGlobal> Schedule<'o, 'a, 'i, R> {
     }
 }
 
-// `A..B` for the turns from A to below B, or how many there are.
-fn turns_in(text: &str) -> Option<(usize, usize)> {
-    let (from, to) = text.split_once("..").unwrap_or(("0", text));
-    Some((from.parse().ok()?, to.parse().ok()?))
+impl<'o, 'a: 'o, 'i: 'o, R: Wait + AllocGlobal + Abort> Schedule<'o, 'a, 'i, R> {
+    fn run(&mut self, name: &str, lines: &'o str) {
+        for line in lines.lines() {
+            self.run_line(name, line);
+        }
+    }
+
+    fn run_line(&mut self, name: &str, line: &'o str) {
+        let (order, wanted) = line.split_once(" => ").unwrap_or((line, "so"));
+        let (from, to, order) = turns_in(order);
+        same(self.scene.rt, line, from < to, true);
+        for turn in from..to {
+            self.turn = turn;
+            let text = self.obey(order);
+            compare(self.scene.rt, (name, order), text, wanted);
+        }
+    }
+}
+
+// From which turn to below which an order is obeyed, `A..B * ` or `N * ` before it. None, if that can't be read.
+fn turns_in(order: &str) -> (usize, usize, &str) {
+    let (turns, order) = order.split_once(" * ").unwrap_or(("1", order));
+    let (from, to) = turns.split_once("..").unwrap_or(("0", turns));
+    (from.parse().unwrap_or(0), to.parse().unwrap_or(0), order)
 }
 
 // All memory, if a schedule starves.
@@ -228,56 +224,27 @@ fn hoarded(alloc: Global, starves: bool) -> Result<Option<Vec<Vec<u8>>>, AllocEr
     Ok(None)
 }
 
-// `p`, `v` with a value, or `e` with an error.
-fn answer_in(text: &str) -> Option<Tried> {
-    if let Some(value) = text.strip_prefix('v') {
-        return Some(Ok(value.parse().ok()?));
-    }
-    Some(Err(text.strip_prefix('e')?.parse().ok()?))
-}
-
-// Whether a line leads to what is wanted.
-fn compare(
-    name: &str,
-    order: &str,
+// Fails the test if an order leads to something else than is wanted. No text stands for one that memory lacked for.
+fn compare<R: AllocGlobal + Abort>(
+    rt: &R,
+    (name, order): (&str, &str),
     text: Result<String, AllocError>,
     wanted: &str,
-) -> Result<(), Fail> {
-    let text = text?;
-    if text.as_str() == wanted {
-        return Ok(());
-    }
-    Err(Fail::new(format_args!("{order} in {name} leads to {text}")))
-}
-
-// Whether there were so many.
-fn come_to(what: &str, found: usize, least: usize) -> Result<(), Fail> {
-    if found >= least {
-        return Ok(());
-    }
-    Err(Fail::new(format_args!("{found} {what}, and not {least}")))
-}
-
-// So many places for futures, all empty.
-fn places<T: Drop>(alloc: Global, count: usize) -> Result<Vec<Option<T>>, AllocError> {
-    let mut places = Vec::new(alloc);
-    for _ in 0..count {
-        places.push(None)?;
-    }
-    Ok(places)
+) {
+    let text = text.unwrap_or(String::new(rt.alloc()));
+    assert_eq!(rt; text.as_str(), wanted, "{order} in {name}");
 }
 
 // Runs the lines between two calls of the owner.
-fn run_part<'s, 'i: 's, R: Wait + AllocGlobal>(
+fn run_part<'s, 'i: 's, R: Wait + AllocGlobal + Abort>(
     rt: &'s R,
     (cell, lazy): (&'s OnceCell<u64>, &'s Lazy<u64, Init<'i, u64>>),
     (inits, tasks): (&'i Inits, &'s Tasks),
     (name, lines): (&str, &'s str),
-) -> Result<(), Fail> {
+) {
     let Some(task) = tasks.tasks.get(1) else {
-        return Ok(());
+        return same(rt, name, "no task", "a task");
     };
-    let futures = places(rt.alloc(), tasks.tasks.len())?;
     let other = Other::new(cell, rt, task);
     let scene = Scene {
         rt,
@@ -287,8 +254,8 @@ fn run_part<'s, 'i: 's, R: Wait + AllocGlobal>(
         inits,
         tasks,
     };
-    let mut schedule = Schedule::new(scene, futures);
-    schedule.run(name, lines)
+    let mut schedule = Schedule::begun(scene);
+    schedule.run(name, lines);
 }
 
 // Has the owner of a cell write the value: what was lent before.
@@ -351,75 +318,55 @@ fn left(
     cell: OnceCell<u64>,
     lazy: Lazy<u64, Init<'_, u64>>,
 ) -> Result<String, AllocError> {
-    let (value, lazy) = (cell.into_inner(), lazy.into_inner());
-    format!(in alloc; "{value:?}, {lazy:?}")
+    text_of(alloc, &[cell.into_inner(), lazy.into_inner()])
 }
 
-// Runs a schedule in parts, between which the owner calls.
-fn run_parts<'i, R>(
+// Runs a schedule in parts, between which the owner calls. Before the first the owner does nothing: its head stands
+// there.
+fn run_parts<'i, R: Wait + AllocGlobal + Abort>(
     rt: &R,
     cell: &mut OnceCell<u64>,
     lazy: &mut Lazy<u64, Init<'i, u64>>,
     (inits, tasks): (&'i Inits, &Tasks),
-    (name, lines): (&str, &str),
-) -> Result<(), Fail>
-where
-    R: Wait + AllocGlobal,
-{
-    let (first, others) = lines.split_once("owner ").unwrap_or((lines, ""));
-    run_part(rt, (&*cell, &*lazy), (inits, tasks), (name, first))?;
-    if others.is_empty() {
-        return Ok(());
-    }
-    for part in others.split("owner ") {
+    (name, text): (&str, &str),
+) {
+    for part in text.split("\nowner ") {
         let (line, lines) = part.split_once('\n').unwrap_or((part, ""));
-        let (order, wanted) = line.split_once(" => ").unwrap_or((line, ""));
-        compare(
-            name,
-            order,
-            owned(rt.alloc(), cell, lazy, (inits, tasks), order),
-            wanted,
-        )?;
-        run_part(rt, (&*cell, &*lazy), (inits, tasks), (name, lines))?;
+        let (order, wanted) = line.split_once(" => ").unwrap_or((line, "None"));
+        let found = owned(rt.alloc(), cell, lazy, (inits, tasks), order);
+        compare(rt, (name, order), found, wanted);
+        run_part(rt, (&*cell, &*lazy), (inits, tasks), (name, lines));
     }
-    Ok(())
 }
 
 // Runs a schedule, and looks at what is left if its last line asks for it.
-fn run_one<R>(rt: &R, name: &str, lines: &str) -> Result<(), Fail>
+fn run_one<R>(rt: &R, text: &str)
 where
-    R: Wait + AllocGlobal + RandomSource,
+    R: Wait + AllocGlobal + RandomSource + Abort,
 {
-    let (parts, end) = lines.split_once("end => ").unwrap_or((lines, ""));
-    let (tasks, inits) = (Tasks::new(rt, most(lines))?, Inits::new());
+    let (name, lines) = text.split_once('\n').unwrap_or((text, ""));
+    let (parts, end) = text.split_once("\nend => ").unwrap_or((text, ""));
+    let Ok(tasks) = Tasks::new(rt, most(lines)) else {
+        return same(rt, name, "no tasks", "tasks");
+    };
+    let inits = Inits::new();
     let (mut cell, mut lazy) = (OnceCell::new(), Lazy::new(inits.sure.init()));
-    let ran = run_parts(rt, &mut cell, &mut lazy, (&inits, &tasks), (name, parts));
-    let text = left(rt.alloc(), cell, lazy);
-    ran?;
-    if end.is_empty() {
-        return Ok(());
+    run_parts(rt, &mut cell, &mut lazy, (&inits, &tasks), (name, parts));
+    let left = left(rt.alloc(), cell, lazy);
+    if !end.is_empty() {
+        compare(rt, (name, "end"), left, end);
     }
-    compare(name, "end", text, end)
-}
-
-// A schedule of a text: its name, and its lines.
-fn named(part: &str) -> (&str, &str) {
-    let (head, lines) = part.split_once('\n').unwrap_or((part, ""));
-    let (name, _) = head.split_once(": ").unwrap_or((head, ""));
-    (name, lines)
 }
 
 /// Runs the schedules of a text, each over cells of its own. An empty line stands between two, and `# NAME` or
 /// `# NAME: WHAT IT IS ABOUT` before the lines of each. Each line must lead to what stands after its `=>`, or wake
 /// nobody if nothing stands there. `A..B * ` before a line stands for such lines at the numbers from A to B - 1,
 /// by which each `n` is read, and `N * ` for N of them.
-pub fn run<R>(rt: &R, schedules: &str) -> Result<(), Fail>
+pub fn run<R>(rt: &R, schedules: &str)
 where
-    R: Wait + AllocGlobal + RandomSource,
+    R: Wait + AllocGlobal + RandomSource + Abort,
 {
-    for part in schedules.split("\n\n") {
-        let (name, lines) = named(part);
-        run_one(rt, name, lines)?;
+    for text in schedules.split("\n\n") {
+        run_one(rt, text);
     }
-    Ok(())
 }

@@ -1,7 +1,9 @@
 //! Inits that do as a test tells them.
+ghost use Rattle.std.specs.Prelude.{◌≡◌};
+ghost use Rattle.futures.specs.Task.{IsArmed, Keeps};
 
 use futures::Future;
-use futures::task::{Context, Poll};
+use futures::task::{Context, Poll, Source, Waker};
 use std::cell::Cell;
 
 /// The answer of an init that may fail.
@@ -12,6 +14,10 @@ pub type Tried = Result<u64, u64>;
 pub struct Stub<O: Copy> {
     /// What the inits answer. None has them be Pending.
     pub answer: Cell<Option<O>>,
+    /// Whether an init that is Pending asks for nothing, and not for another poll of its task.
+    pub is_silent: Cell<bool>,
+    // What such an init waits for, which never comes.
+    source: Source,
     /// How many were made.
     pub made: Cell<u64>,
     /// How often they were polled.
@@ -25,6 +31,8 @@ impl<O: Copy> Stub<O> {
     pub fn new() -> Self {
         Stub {
             answer: Cell::new(None),
+            is_silent: Cell::new(false),
+            source: Source::new(),
             made: Cell::new(0),
             polls: Cell::new(0),
             drops: Cell::new(0),
@@ -41,7 +49,10 @@ impl<O: Copy> Stub<O> {
     /// An init that does as the stub says.
     pub fn init(&self) -> Init<'_, O> {
         count(&self.made);
-        Init { stub: self }
+        Init {
+            stub: self,
+            waker: None,
+        }
     }
 
     /// What an init of it answers to a poll, which it counts. None says that it is Pending.
@@ -50,20 +61,33 @@ impl<O: Copy> Stub<O> {
         self.answer.get()
     }
 
+    /// What an init does that is Pending: it asks for another poll, or only leaves its task's waker here.
+    pub fn pending(&self, cx: &mut Context<'_>, waker: &mut Option<Waker>) -> Poll<O>
+        ensures pending { result ≡ Poll.Pending }
+        ensures armed { IsArmed cx.new }
+        ensures kept { Keeps cx.old cx.new }
+    {
+        if self.is_silent.get() {
+            return cx.register(&self.source, waker);
+        }
+        cx.yield_now()
+    }
+
     /// How often its inits were polled, and how many were dropped.
     pub fn counts(&self) -> (u64, u64) {
         (self.polls.get(), self.drops.get())
     }
 }
 
-/// An init that does as a stub says. It lets its task be polled again when it is Pending.
+/// An init that does as a stub says.
 pub struct Init<'a, O: Copy> {
     stub: &'a Stub<O>,
+    waker: Option<Waker>,
 }
 
 impl<O: Copy> Drop for Init<'_, O> {
     fn drop(self) {
-        let Init { stub } = self;
+        let Init { stub, waker: _ } = self;
         count(&stub.drops);
     }
 }
@@ -74,7 +98,7 @@ impl<O: Copy> Future for Init<'_, O> {
     fn poll(&mut self, cx: &mut Context<'_>) -> Poll<O> {
         match self.stub.asked() {
             Some(answer) => Poll::Ready(answer),
-            None => cx.yield_now(),
+            None => self.stub.pending(cx, &mut self.waker),
         }
     }
 }

@@ -15,24 +15,24 @@ const SCHEDULES: &str = "\
 owner replace 7 => None
 inits => 0 polls, 1 drops
 owner replace 8 => Some(7)
-lazy => Some(8), Lazy { value: Some(8), inner: Inner { ready: true, quick_init: false, refcount: 0, queue: false } }
+lazy => (Some(8), Lazy { value: Some(8), inner: Inner { ready: true, quick_init: false, refcount: 0, queue: false } })
 owner renew => Some(8)
-lazy => None, Lazy { value: None, inner: Inner { ready: false, quick_init: false, refcount: 0, queue: false } }
+lazy => (None, Lazy { value: None, inner: Inner { ready: false, quick_init: false, refcount: 0, queue: false } })
 inits => 0 polls, 1 drops
 owner renew => None
 inits => 0 polls, 2 drops
-lazy => None, Lazy { value: None, inner: Inner { ready: false, quick_init: false, refcount: 0, queue: false } }
-end => None, None
+lazy => (None, Lazy { value: None, inner: Inner { ready: false, quick_init: false, refcount: 0, queue: false } })
+end => [None, None]
 
 # value_lent_for_writing: a value is lent for writing, and given away at the end
 owner replace 7 => None
 owner lend 8 => Some(7)
-lazy => Some(8), Lazy { value: Some(8), inner: Inner { ready: true, quick_init: false, refcount: 0, queue: false } }
-end => None, Some(8)
+lazy => (Some(8), Lazy { value: Some(8), inner: Inner { ready: true, quick_init: false, refcount: 0, queue: false } })
+end => [None, Some(8)]
 
 # nothing_to_lend: there is nothing to lend before the first poll
 owner lend 8 => None
-lazy => None, Lazy { value: None, inner: Inner { ready: false, quick_init: false, refcount: 0, queue: false } }
+lazy => (None, Lazy { value: None, inner: Inner { ready: false, quick_init: false, refcount: 0, queue: false } })
 inits => 0 polls, 0 drops
 
 # value_of_the_future_written: a value that the cell's future gave may be written, and then the written one is told
@@ -42,20 +42,20 @@ owner lend 8 => Some(4)
 get 0
 poll 0 v9 => v8, done
 inits => 1 polls, 1 drops
-end => None, Some(8)
+end => [None, Some(8)]
 
 # value_of_the_future_given_away
 get 0
 poll 0 v4 => v4, done
 owner replace 5 => Some(4)
-end => None, Some(5)
+end => [None, Some(5)]
 
 # no_value_before_a_poll
-end => None, None";
+end => [None, None]";
 
 #[test]
-fn calls_of_the_owner(rt: HostRuntime) -> Result<(), Fail> {
-    run(&rt, SCHEDULES)
+fn calls_of_the_owner(rt: HostRuntime) {
+    run(&rt, SCHEDULES);
 }
 
 // What comes of a cell that is taken apart: its value, or what its future gives at a next poll, and how often that was
@@ -81,32 +81,15 @@ fn future_handed_back(rt: HostRuntime) -> Result<(), Fail> {
     let (stub, task) = (Stub::new(), MockTask::new(&rt)?);
     let lazy = Lazy::new(stub.init());
     let reply = polled(&task, &mut lazy.get(&rt));
-    same(
-        &rt,
-        "once",
-        (reply, stub.counts()),
-        (Reply::Pending, (1, 0)),
-    );
-    same(
-        &rt,
-        "future",
-        apart(lazy, &stub, &task),
-        (Err(Poll::Ready(9)), 2),
-    );
-    same(
-        &rt,
-        "value",
-        apart(Lazy::with_value(7), &stub, &task),
-        (Ok(7), 2),
-    );
+    let once = (reply, stub.counts());
+    let future = apart(lazy, &stub, &task);
+    let value = apart(Lazy::with_value(7), &stub, &task);
     let lazy = Lazy::new(stub.init());
     let _ = polled(&task, &mut lazy.get(&rt));
-    same(
-        &rt,
-        "value of the future",
-        apart(lazy, &stub, &task),
-        (Ok(9), 3),
-    );
+    let found = [future, value, apart(lazy, &stub, &task)];
+    let wanted = [(Err(Poll::Ready(9)), 2), (Ok(7), 2), (Ok(9), 3)];
+    same(&rt, "once", once, (Reply::Pending, (1, 0)));
+    same(&rt, "future, value, value of the future", found, wanted);
     Ok(())
 }
 

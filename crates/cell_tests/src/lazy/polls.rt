@@ -1,7 +1,7 @@
 //! Which task drives the future of a cell, and what the others get, as schedules of polls and drops.
 
 use crate::doubles::schedule::{refuse_each, run, run_in_little};
-use std::test::Fail;
+use std::alloc::AllocError;
 
 // Schedules over a `Lazy`.
 const SCHEDULES: &str = "\
@@ -14,17 +14,16 @@ poll 0 p 0 => pending, wakes 0
 poll 1 p 0 => pending
 poll 2 p 0 => pending
 poll 3 p 0 => pending
-lazy => None, Lazy { value: None, inner: Inner { ready: false, quick_init: true, refcount: 3, queue: true } }
+lazy => (None, Lazy { value: None, inner: Inner { ready: false, quick_init: true, refcount: 3, queue: true } })
 poll 0 v2 0 => v2, done, wakes 0
 poll 1 v2 0 => v2, done
 poll 2 v2 0 => v2, done
 poll 3 v2 0 => v2, done
 inits => 2 polls, 1 drops
-lazy => Some(2), Lazy { value: Some(2), inner: Inner { ready: true, quick_init: false, refcount: 0, queue: false } }
+lazy => (Some(2), Lazy { value: Some(2), inner: Inner { ready: true, quick_init: false, refcount: 0, queue: false } })
 
 # holder_dropped: a holder is dropped: the cell's future stays, and goes on where it stood
-get 0
-get 1
+0..2 * get n
 poll 0 p => pending, wakes 0
 poll 1 p => pending
 drop 0 => so, wakes 1
@@ -35,8 +34,7 @@ drop 1
 inits => 3 polls, 1 drops
 
 # driven_on_after_a_holder_left: by `leave`: the future of the cell stays, and another task drives it on
-get 0
-get 1
+0..2 * get n
 poll 0 p => pending, wakes 0
 leave 0
 future 0 => LazyFuturePin { finished: true }
@@ -49,7 +47,7 @@ get 0
 poll 0 v5 => v5, done
 poll 0 v5 => pending, done, wakes 0
 inits => 1 polls, 1 drops
-lazy => Some(5), Lazy { value: Some(5), inner: Inner { ready: true, quick_init: false, refcount: 0, queue: false } }
+lazy => (Some(5), Lazy { value: Some(5), inner: Inner { ready: true, quick_init: false, refcount: 0, queue: false } })
 
 # futures_shown: a future says whether it is finished
 get 0
@@ -63,40 +61,38 @@ future 1 => LazyFuturePin { finished: true }
 into 0
 poll 0 v9 => v9, done
 drop 0
-lazy => Some(9), Lazy { value: Some(9), inner: Inner { ready: true, quick_init: false, refcount: 0, queue: false } }
+lazy => (Some(9), Lazy { value: Some(9), inner: Inner { ready: true, quick_init: false, refcount: 0, queue: false } })
 inits => 1 polls, 1 drops
-end => None, Some(9)";
+end => [None, Some(9)]";
 
 // A schedule over a `Lazy` that needs no memory from some point on, and gets none.
 const STARVED: &str = "\
 # no_memory_to_wait: who would wait is refused and done, and the cell stays as it is. The holder goes on
-get 0
-get 1
+0..2 * get n
 starve
 poll 0 p => pending, wakes 0
 poll 1 p => memory, done
 poll 0 v4 => v4, done
-drop 0
-drop 1
+0..2 * drop n
 inits => 2 polls, 1 drops
-lazy => Some(4), Lazy { value: Some(4), inner: Inner { ready: true, quick_init: false, refcount: 0, queue: false } }";
+lazy => (Some(4), Lazy { value: Some(4), inner: Inner { ready: true, quick_init: false, refcount: 0, queue: false } })";
 
 #[test]
-fn memory_as_asked(rt: HostRuntime) -> Result<(), Fail> {
-    run(&rt, SCHEDULES)
+fn memory_as_asked(rt: HostRuntime) {
+    run(&rt, SCHEDULES);
 }
 
 #[test]
-fn starved(rt: HostRuntime) -> Result<(), Fail> {
-    run(&rt, STARVED)
+fn starved(rt: HostRuntime) {
+    run(&rt, STARVED);
 }
 
 #[test]
-fn each_request_refused(rt: HostRuntime) -> Result<(), Fail> {
+fn each_request_refused(rt: HostRuntime) -> Result<(), AllocError> {
     refuse_each(&rt, SCHEDULES, 3)
 }
 
 #[test]
-fn no_memory_kept(rt: HostRuntime) -> Result<(), Fail> {
+fn no_memory_kept(rt: HostRuntime) -> Result<(), AllocError> {
     run_in_little(&rt, SCHEDULES, 5)
 }

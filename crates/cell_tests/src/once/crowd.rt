@@ -44,6 +44,17 @@ fn told<R: Wait + AllocGlobal>(
     told
 }
 
+// How many tasks are woken.
+fn called(tasks: &[MockTask]) -> usize {
+    let mut called = 0usize;
+    for task in tasks {
+        if task.is_woken() {
+            called = called.saturating_add(1);
+        }
+    }
+    called
+}
+
 /// However many wait, each is woken by the value, and is told it.
 #[test]
 fn value_for_a_crowd(rt: HostRuntime) -> Result<(), Fail> {
@@ -53,17 +64,13 @@ fn value_for_a_crowd(rt: HostRuntime) -> Result<(), Fail> {
     let mut holder = cell.get_or_init(&rt, stub.init());
     let is_held = task.poll(&mut holder).is_pending();
     let waiting = told(&mut members, &tasks, Reply::Pending);
-    let before = tasks.iter().filter(|it| it.is_woken()).count();
+    let before = called(&tasks);
     stub.answer.set(Some(4));
     let is_filled = task.poll(&mut holder).is_ready();
-    let called = tasks.iter().filter(|it| it.is_woken()).count();
+    let after = called(&tasks);
     let told = told(&mut members, &tasks, Reply::Value(4));
-    same(&rt, "held and filled", [is_held, is_filled], [true, true]);
-    same(
-        &rt,
-        "waiting, called before and after, told",
-        [waiting, before, called, told],
-        [CROWD, 0, CROWD, CROWD],
-    );
+    let found = ([is_held, is_filled], [waiting, before, after, told]);
+    let wanted = ([true, true], [CROWD, 0, CROWD, CROWD]);
+    same(&rt, "waiting, called before and after, told", found, wanted);
     Ok(())
 }

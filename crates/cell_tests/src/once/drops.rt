@@ -1,7 +1,7 @@
 //! When values are dropped.
 
-use crate::doubles::same;
 use crate::doubles::value::{Makes, Value};
+use crate::doubles::{same, three_tasks};
 use async_once_cell::OnceCell;
 use async_once_cell::once::InitFuture;
 use futures::future::pending;
@@ -12,56 +12,59 @@ use std::cell::Cell;
 use std::sync::Wait;
 use std::test::Fail;
 
-// A cell that a future gave a value, which counts here when it is dropped.
+// A cell that its owner, or else a future, gave a value, which counts here when it is dropped.
 fn filled<'d, R: Wait + AllocGlobal>(
     rt: &R,
     task: &MockTask,
+    act: &str,
     drops: &'d Cell<u64>,
 ) -> OnceCell<Value<'d>> {
+    if act == "made with it" {
+        return OnceCell::new_with(Value { drops });
+    }
     let cell = OnceCell::new();
     let _ = task.poll(&mut cell.get_or_init(rt, Makes { drops }));
     cell
 }
 
-/// A value lives until its owner takes it.
-#[test]
-fn value_taken(rt: HostRuntime) -> Result<(), Fail> {
-    let (task, drops) = (MockTask::new(&rt)?, Cell::new(0));
-    let mut cell = filled(&rt, &task, &drops);
-    let (is_lent, before) = (cell.get().is_some(), drops.get());
-    let is_taken = cell.take().is_some();
-    let after = drops.get();
-    drop(cell);
-    same(&rt, "lent and taken", [is_lent, is_taken], [true, true]);
-    same(&rt, "drops", [before, after, drops.get()], [0, 1, 1]);
-    Ok(())
+// Whether this call of the owner answers the value.
+fn is_answered(cell: &mut OnceCell<Value<'_>>, act: &str) -> bool {
+    match act {
+        "taken" => cell.take().is_some(),
+        "lent for writing" => cell.get_mut().is_some() && cell.get_mut().is_some(),
+        _ => cell.get().is_some(),
+    }
 }
 
-/// A value that nobody takes lives as long as its cell.
-#[test]
-fn value_dropped_with_the_cell(rt: HostRuntime) {
+// The same, and how often the value was dropped before the call, before the cell was dropped, and after.
+fn ended<R: Wait + AllocGlobal>(rt: &R, task: &MockTask, act: &str) -> (bool, [u64; 3]) {
     let drops = Cell::new(0);
-    let cell = OnceCell::new_with(Value { drops: &drops });
+    let mut cell = filled(rt, task, act, &drops);
     let before = drops.get();
+    let is_answered = is_answered(&mut cell, act);
+    let between = drops.get();
     drop(cell);
-    same(&rt, "drops", [before, drops.get()], [0, 1]);
+    (is_answered, [before, between, drops.get()])
 }
 
-/// So does a value that its owner may write.
+/// A value lives until its owner takes it. One that nobody takes lives as long as its cell, also if its owner may write
+/// it.
 #[test]
-fn value_lent_for_writing(rt: HostRuntime) -> Result<(), Fail> {
-    let (task, drops) = (MockTask::new(&rt)?, Cell::new(0));
-    let mut cell = filled(&rt, &task, &drops);
-    let is_lent = cell.get_mut().is_some();
-    let is_lent_again = cell.get_mut().is_some();
-    let before = drops.get();
-    drop(cell);
-    same(&rt, "lent", [is_lent, is_lent_again], [true, true]);
-    same(&rt, "drops", [before, drops.get()], [0, 1]);
+fn values_dropped_once(rt: HostRuntime) -> Result<(), Fail> {
+    let task = MockTask::new(&rt)?;
+    let rows = [
+        ("taken", [0, 1, 1]),
+        ("made with it", [0, 0, 1]),
+        ("lent", [0, 0, 1]),
+        ("lent for writing", [0, 0, 1]),
+    ];
+    for (act, wanted) in rows {
+        same(&rt, act, ended(&rt, &task, act), (true, wanted));
+    }
     Ok(())
 }
 
-// Polls a future with this ration of memory.
+// Polls a future with this ration of memory. Whether there was memory for the ration.
 fn poll_rationed<'d, R: Wait + AllocGlobal>(
     task: &MockTask,
     future: &mut InitFuture<'_, Value<'d>, Makes<'d>, R>,
@@ -73,54 +76,57 @@ fn poll_rationed<'d, R: Wait + AllocGlobal>(
 }
 
 // A future waits while another holds, with this ration of memory. The other is dropped, and the one that waits,
-// or a third, makes a value. Whether it did, and how often it was dropped before its cell was, and with it.
-fn made_after<R: Wait + AllocGlobal>(
+// or a third, makes a value. Whether it did.
+fn is_made_after<'d, R: Wait + AllocGlobal>(
     rt: &R,
+    cell: &OnceCell<Value<'d>>,
+    drops: &'d Cell<u64>,
     tasks: &[MockTask; 3],
     rations: &mut Rations,
-) -> Result<(bool, [u64; 2]), AllocError> {
-    let drops = Cell::new(0);
-    let cell = OnceCell::new();
+) -> bool {
     let mut holder = cell.get_or_init(rt, pending());
-    let mut waiter = cell.get_or_init(rt, Makes { drops: &drops });
-    let mut third = cell.get_or_init(rt, Makes { drops: &drops });
     let is_held = tasks[0].poll(&mut holder).is_pending();
-    let polled = poll_rationed(&tasks[1], &mut waiter, rations);
+    let mut waiter = cell.get_or_init(rt, Makes { drops });
+    let is_rationed = poll_rationed(&tasks[1], &mut waiter, rations).is_ok();
     drop(holder);
     if !waiter.is_finished() {
         let _ = tasks[1].poll(&mut waiter);
     }
-    let is_made = tasks[2].poll(&mut third).is_ready();
-    drop(waiter);
-    drop(third);
+    let mut third = cell.get_or_init(rt, Makes { drops });
+    is_held & is_rationed & tasks[2].poll(&mut third).is_ready()
+}
+
+// Whether it did, and the value was dropped with the cell, and not before.
+fn is_dropped_once<R: Wait + AllocGlobal>(
+    rt: &R,
+    tasks: &[MockTask; 3],
+    rations: &mut Rations,
+) -> bool {
+    let drops = Cell::new(0);
+    let cell = OnceCell::new();
+    let is_made = is_made_after(rt, &cell, &drops, tasks, rations);
     let before = drops.get();
     drop(cell);
-    polled?;
-    Ok((is_held && is_made, [before, drops.get()]))
+    is_made && [before, drops.get()] == [0, 1]
 }
 
 /// A value is dropped once, whichever request for memory is refused to a waiter.
 #[test]
 fn value_dropped_once_where_memory_is_refused(rt: HostRuntime) -> Result<(), Fail> {
-    let tasks = [
-        MockTask::new(&rt)?,
-        MockTask::new(&rt)?,
-        MockTask::new(&rt)?,
-    ];
+    let tasks = three_tasks(&rt)?;
     let held = hoard_most(rt.alloc())?;
     let mut rations = Rations::noting(rt.alloc());
-    let mut are_so = made_after(&rt, &tasks, &mut rations)? == (true, [0, 1]);
+    let mut are_so = is_dropped_once(&rt, &tasks, &mut rations);
     for request in rations.requests() {
-        let mut rations = Rations::refusing(rt.alloc(), *request);
-        are_so &= made_after(&rt, &tasks, &mut rations)? == (true, [0, 1]);
+        are_so &= is_dropped_once(&rt, &tasks, &mut Rations::refusing(rt.alloc(), *request));
     }
     drop(held);
-    let are_many = rations.requests().len() >= 4;
+    let found = (are_so, rations.requests().len() >= 4);
     same(
         &rt,
-        "dropped once, each time",
-        [are_so, are_many],
-        [true, true],
+        "dropped once each time, of four times",
+        found,
+        (true, true),
     );
     Ok(())
 }

@@ -2,7 +2,6 @@
 //! value.
 
 use crate::doubles::schedule::run;
-use std::test::Fail;
 
 // The poll of a set cell drops the init and does not poll it, also with a token that knows the value. No other call
 // does.
@@ -94,6 +93,6 @@ drop 1
 inits => 0 polls, 1 drops";
 
 #[test]
-fn kept_until_the_poll_or_the_drop(rt: HostRuntime) -> Result<(), Fail> {
-    run(&rt, SCHEDULES)
+fn kept_until_the_poll_or_the_drop(rt: HostRuntime) {
+    run(&rt, SCHEDULES);
 }

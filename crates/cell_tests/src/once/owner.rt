@@ -1,7 +1,6 @@
 //! The calls of the cell's owner.
 
 use crate::doubles::schedule::run;
-use std::test::Fail;
 
 const SCHEDULES: &str = "\
 # value_of_the_owner: a cell that is made with a value lends it, changes it and gives it away, and is empty then
@@ -10,28 +9,27 @@ owner write 6 => Some(5)
 show => OnceCell { value: Some(6), inner: Inner { ready: true, quick_init: false, refcount: 0, queue: false } }
 owner take => Some(6)
 show => OnceCell { value: None, inner: Inner { ready: false, quick_init: false, refcount: 0, queue: false } }
-look => [None, None], Known(None), Known(None)
+look => ([None, None], Known(None), Known(None))
 owner write 7 => None
 owner take => None
-end => None, None
+end => [None, None]
 
 # made_by_default
 owner default => None
 show => OnceCell { value: None, inner: Inner { ready: false, quick_init: false, refcount: 0, queue: false } }
-end => None, None
+end => [None, None]
 
 # taken_apart
 owner with 5 => None
-end => Some(5), None
+end => [Some(5), None]
 
 # made_from_a_value
 owner from 7 => None
 owner default => Some(7)
-end => None, None
+end => [None, None]
 
 # written_beside_a_queue: a value may be written while a queue stands, which a forgotten future left
-init 0
-init 1
+0..2 * init n
 poll 0 p => pending, wakes 0
 poll 1 p => pending
 poll 0 v4 => v4, done, wakes 1
@@ -39,7 +37,7 @@ drop 0
 forget 1
 show => OnceCell { value: Some(4), inner: Inner { ready: true, quick_init: false, refcount: 1, queue: true } }
 owner write 6 => Some(4)
-look => [Some(6), Some(6)], Known(None), Known(Some(6))
+look => ([Some(6), Some(6)], Known(None), Known(Some(6)))
 
 # nothing_to_write_beside_a_holder: a cell that is not set is left as it is, whichever futures were forgotten there
 init 0
@@ -56,17 +54,17 @@ show => OnceCell { value: None, inner: Inner { ready: false, quick_init: true, r
 # written_after_a_fill: polls and tokens are told the written value, and no other init is polled
 init 0
 poll 0 v4 => v4, done
-look => [Some(4), Some(4)], Known(None), Known(Some(4))
+look => ([Some(4), Some(4)], Known(None), Known(Some(4)))
 owner write 6 => Some(4)
 init 0
 poll 0 v4 => v6, done
-look => [Some(6), Some(6)], Known(None), Known(Some(6))
+look => ([Some(6), Some(6)], Known(None), Known(Some(6)))
 inits => 1 polls, 2 drops
 owner write 6 => Some(6)
 owner take => Some(6)
-end => None, None";
+end => [None, None]";
 
 #[test]
-fn calls_of_the_owner(rt: HostRuntime) -> Result<(), Fail> {
-    run(&rt, SCHEDULES)
+fn calls_of_the_owner(rt: HostRuntime) {
+    run(&rt, SCHEDULES);
 }

@@ -1,7 +1,7 @@
 //! Schedules of polls and drops over a cell, line by line.
 
 use crate::doubles::schedule::{refuse_each, run, run_in_little};
-use std::test::Fail;
+use std::alloc::AllocError;
 
 // Schedules over a `OnceCell`. A waiter that leaves the list lets its waker go, which wakes its task.
 const SCHEDULES: &str = "\
@@ -15,8 +15,7 @@ inits => 1 polls, 2 drops
 show => OnceCell { value: Some(4), inner: Inner { ready: true, quick_init: false, refcount: 0, queue: false } }
 
 # slow_path
-init 0
-init 1
+0..2 * init n
 poll 0 p => pending, wakes 0
 poll 1 v9 => pending
 poll 1 v9 => pending
@@ -26,8 +25,7 @@ inits => 2 polls, 2 drops
 show => OnceCell { value: Some(2), inner: Inner { ready: true, quick_init: false, refcount: 0, queue: false } }
 
 # tricked_fast_path: a waiter is gone when the value is set: the right goes back as if nobody had waited
-init 0
-init 1
+0..2 * init n
 poll 0 p => pending, wakes 0
 poll 1 v9 => pending
 init 1 => so, wakes 1
@@ -37,15 +35,10 @@ poll 1 v9 => v2, done
 show => OnceCell { value: Some(2), inner: Inner { ready: true, quick_init: false, refcount: 0, queue: false } }
 
 # second_try
-try 1
-try 2
-try 3
-try 4
+1..5 * try n
 poll 1 p => pending, wakes 1
 show => OnceCell { value: None, inner: Inner { ready: false, quick_init: true, refcount: 0, queue: false } }
-poll 2 v9 => pending
-poll 3 v9 => pending
-poll 4 v9 => pending
+2..5 * poll n v9 => pending
 show => OnceCell { value: None, inner: Inner { ready: false, quick_init: true, refcount: 3, queue: true } }
 poll 2 v9 => pending
 poll 1 e1 => e1, done, wakes 2
@@ -62,8 +55,7 @@ inits => 4 polls, 5 drops
 show => OnceCell { value: Some(2), inner: Inner { ready: true, quick_init: false, refcount: 0, queue: false } }
 
 # dropped_holder
-init 0
-init 1
+0..2 * init n
 poll 0 p => pending, wakes 0
 poll 1 v9 => pending
 drop 0 => so, wakes 1
@@ -74,10 +66,7 @@ inits => 2 polls, 2 drops
 show => OnceCell { value: Some(5), inner: Inner { ready: true, quick_init: false, refcount: 0, queue: false } }
 
 # second_try_of_one_task: as second_try, where one task polls them all
-try 1
-try 2
-try 3
-try 4
+1..5 * try n
 poll 1 p 0 => pending, wakes 0
 poll 2 v9 0 => pending
 poll 3 v9 0 => pending
@@ -95,8 +84,7 @@ poll 3 v9 0 => v2, done
 show => OnceCell { value: Some(2), inner: Inner { ready: true, quick_init: false, refcount: 0, queue: false } }
 
 # second_holder_dropped: a waiter that took the right over is dropped in its turn
-init 0
-init 1
+0..2 * init n
 poll 0 p => pending, wakes 0
 poll 1 v9 => pending
 drop 0 => so, wakes 1
@@ -133,8 +121,7 @@ drop 3
 inits => 3 polls, 5 drops
 
 # polled_without_a_call
-init 0
-init 1
+0..2 * init n
 poll 0 p => pending, wakes 0
 100 * poll 1 v9 => pending
 show => OnceCell { value: None, inner: Inner { ready: false, quick_init: true, refcount: 1, queue: true } }
@@ -142,8 +129,7 @@ poll 0 v2 => v2, done, wakes 1
 poll 1 v9 => v2, done
 
 # moved_from_task_to_task: where a waker takes the place of another task's, that one is let go, which wakes its task
-init 0
-init 1
+0..2 * init n
 poll 0 p => pending, wakes 0
 poll 1 v9 1 => pending
 poll 1 v9 2 => pending, wakes 1
@@ -200,6 +186,29 @@ poll 1 v9 => v4, done
 found => Some(true)
 show => OnceCell { value: Some(4), inner: Inner { ready: true, quick_init: false, refcount: 0, queue: false } }
 
+# place_held_until_the_init_of_a_set_cell_is_dropped: the same, where a waiter is dropped after the value was set
+init 0
+looks 1 OnceCell { value: Some(2), inner: Inner { ready: true, quick_init: false, refcount: 1, queue: true } }
+poll 0 p => pending, wakes 0
+poll 1 p => pending
+poll 0 v2 => v2, done, wakes 1
+found => None
+drop 1
+found => Some(true)
+show => OnceCell { value: Some(2), inner: Inner { ready: true, quick_init: false, refcount: 0, queue: false } }
+
+# place_held_until_the_init_is_dropped_by_a_call: the same, where its `leave` is called
+init 0
+looks 1 OnceCell { value: Some(2), inner: Inner { ready: true, quick_init: false, refcount: 1, queue: true } }
+poll 0 p => pending, wakes 0
+poll 1 p => pending
+poll 0 v2 => v2, done, wakes 1
+found => None
+leave 1
+found => Some(true)
+future 1 => Initializing { finished: true }
+show => OnceCell { value: Some(2), inner: Inner { ready: true, quick_init: false, refcount: 0, queue: false } }
+
 # polled_within_the_init: a second future waits within the init while the cell is empty, and then the init fills it
 uses 0 visit
 poll 0 v6 => v6, done, wakes 1
@@ -225,11 +234,10 @@ poll 0 v5 => v5, done
 owner take => Some(5)
 init 0
 poll 0 v8 => v8, done
-end => Some(8), None
+end => [Some(8), None]
 
 # taken_while_a_queue_stands: a forgotten future leaves its right behind. The owner puts all away, and wakes nobody
-init 0
-init 1
+0..2 * init n
 poll 0 p => pending, wakes 0
 poll 1 p => pending
 drop 1 => so, wakes 1
@@ -273,8 +281,7 @@ inits => 3 polls, 3 drops
 show => OnceCell { value: Some(4), inner: Inner { ready: true, quick_init: false, refcount: 0, queue: false } }
 
 # waited_before: a future that waited before keeps its place, and takes the right over
-init 0
-init 1
+0..2 * init n
 poll 0 p => pending, wakes 0
 poll 1 v9 => pending
 starve
@@ -283,8 +290,7 @@ poll 1 v4 => v4, done
 show => OnceCell { value: Some(4), inner: Inner { ready: true, quick_init: false, refcount: 0, queue: false } }
 
 # no_memory_to_wait: who would wait is refused and done, and the cell stays as it is. The holder goes on
-init 0
-init 1
+0..2 * init n
 starve
 poll 0 p => pending, wakes 0
 poll 1 p => memory, done
@@ -311,26 +317,26 @@ drop 9
 inits => 1 polls, 1 drops";
 
 #[test]
-fn memory_as_asked(rt: HostRuntime) -> Result<(), Fail> {
-    run(&rt, SCHEDULES)
+fn memory_as_asked(rt: HostRuntime) {
+    run(&rt, SCHEDULES);
 }
 
 #[test]
-fn value_for_1100(rt: HostRuntime) -> Result<(), Fail> {
-    run(&rt, MANY)
+fn value_for_1100(rt: HostRuntime) {
+    run(&rt, MANY);
 }
 
 #[test]
-fn starved(rt: HostRuntime) -> Result<(), Fail> {
-    run(&rt, STARVED)
+fn starved(rt: HostRuntime) {
+    run(&rt, STARVED);
 }
 
 #[test]
-fn each_request_refused(rt: HostRuntime) -> Result<(), Fail> {
+fn each_request_refused(rt: HostRuntime) -> Result<(), AllocError> {
     refuse_each(&rt, SCHEDULES, 30)
 }
 
 #[test]
-fn no_memory_kept(rt: HostRuntime) -> Result<(), Fail> {
+fn no_memory_kept(rt: HostRuntime) -> Result<(), AllocError> {
     run_in_little(&rt, SCHEDULES, 12)
 }

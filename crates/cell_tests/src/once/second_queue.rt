@@ -3,7 +3,7 @@
 use crate::doubles::expected::is_shown;
 use crate::doubles::other::{LATER, Other};
 use crate::doubles::poll::polled;
-use crate::doubles::same;
+use crate::doubles::{same, three_tasks};
 use async_once_cell::OnceCell;
 use async_once_cell::record::Reply;
 use futures::test::MockTask;
@@ -74,15 +74,11 @@ const BYTES: usize = 131_072;
 /// The queue that comes second is not kept. Both wait in the first, and are told the value.
 #[test]
 fn second_queue_is_let_go(rt: HostRuntime) -> Result<(), Fail> {
-    let (one, two, three) = (
-        MockTask::new(&rt)?,
-        MockTask::new(&rt)?,
-        MockTask::new(&rt)?,
-    );
+    let tasks = three_tasks(&rt)?;
     let (most, rest) = (hoard_most(rt.alloc())?, hoard_rest(rt.alloc(), BYTES)?);
     let mut is_always = true;
     for _ in 0..TIMES {
-        is_always &= met_at_the_door(&rt, [&one, &two, &three]) == (MET, true);
+        is_always &= met_at_the_door(&rt, [&tasks[0], &tasks[1], &tasks[2]]) == (MET, true);
     }
     drop(rest);
     drop(most);

@@ -1,18 +1,11 @@
 //! Tokens: what they know, and what a poll with one does.
 
-use crate::doubles::poll::heard;
-use crate::doubles::same;
 use crate::doubles::schedule::run;
-use async_once_cell::OnceCell;
-use async_once_cell::record::Reply;
-use futures::future::pending;
-use futures::test::MockTask;
-use std::test::Fail;
 
 const SCHEDULES: &str = "\
 # token_of_a_poll: a token learns the value by a poll, and another by a look
 ask v4 => v4, done, Known(Some(4)), 1 drops
-look => [Some(4), Some(4)], Known(None), Known(Some(4))
+look => ([Some(4), Some(4)], Known(None), Known(Some(4)))
 inits => 1 polls, 1 drops
 show => OnceCell { value: Some(4), inner: Inner { ready: true, quick_init: false, refcount: 0, queue: false } }
 
@@ -23,14 +16,14 @@ inits => 0 polls, 1 drops
 show => OnceCell { value: Some(4), inner: Inner { ready: true, quick_init: false, refcount: 0, queue: false } }
 
 # token_of_a_fill: a token learns by a look what an init gave, and keeps it
-look => [None, None], Known(None), Known(None)
+look => ([None, None], Known(None), Known(None))
 init 0
 poll 0 v5 => v5, done
-look => [Some(5), Some(5)], Known(None), Known(Some(5))
+look => ([Some(5), Some(5)], Known(None), Known(Some(5)))
 
 # token_of_the_owner: and what its owner made it with
 owner with 4 => None
-look => [Some(4), Some(4)], Known(None), Known(Some(4))
+look => ([Some(4), Some(4)], Known(None), Known(Some(4)))
 
 # one_poll_with_a_token: a poll with a token polls the init once
 ask p => pending, wakes 0, Known(None), 0 drops
@@ -38,21 +31,6 @@ inits => 1 polls, 1 drops
 show => OnceCell { value: None, inner: Inner { ready: false, quick_init: false, refcount: 0, queue: false } }";
 
 #[test]
-fn polls_and_looks_with_tokens(rt: HostRuntime) -> Result<(), Fail> {
-    run(&rt, SCHEDULES)
-}
-
-/// A poll with a token does not wake a holder whose init asks for nothing.
-#[test]
-fn pending_poll_with_a_token(rt: HostRuntime) -> Result<(), Fail> {
-    let (task, cell) = (MockTask::new(&rt)?, OnceCell::new());
-    let (mut holder, mut token) = (cell.get_or_init(&rt, pending::<u64>()), cell.token());
-    let told = task.enter(|cx| heard(holder.poll_as(cx, &mut token)));
-    same(
-        &rt,
-        "told",
-        (told, task.is_woken()),
-        (Reply::Pending, false),
-    );
-    Ok(())
+fn polls_and_looks_with_tokens(rt: HostRuntime) {
+    run(&rt, SCHEDULES);
 }

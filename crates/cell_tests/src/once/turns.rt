@@ -1,16 +1,13 @@
 //! A failure wakes one waiter, and a waiter that was woken and leaves passes its turn on.
 
 use crate::doubles::schedule::{refuse_each, run, run_in_little};
-use std::test::Fail;
+use std::alloc::AllocError;
 
 const TURNS: &str = "\
 # called_waiter_dropped
-try 0
-try 1
-try 2
+0..3 * try n
 poll 0 p => pending, wakes 0
-poll 1 v9 => pending
-poll 2 v9 => pending
+1..3 * poll n v9 => pending
 poll 0 e1 => e1, done, wakes 1
 drop 1 => so, wakes 2
 poll 2 v2 => v2, done
@@ -18,14 +15,9 @@ inits => 3 polls, 3 drops
 show => OnceCell { value: Some(2), inner: Inner { ready: true, quick_init: false, refcount: 0, queue: false } }
 
 # each_in_its_turn
-try 0
-try 1
-try 2
-try 3
+0..4 * try n
 poll 0 p => pending, wakes 0
-poll 1 v9 => pending
-poll 2 v9 => pending
-poll 3 v9 => pending
+1..4 * poll n v9 => pending
 drop 0 => so, wakes 1
 poll 1 e1 => e1, done, wakes 2
 poll 2 e2 => e2, done, wakes 3
@@ -33,14 +25,9 @@ poll 3 v3 => v3, done
 inits => 4 polls, 4 drops
 
 # waiter_dropped_before_its_turn: who was not called leaves, with its own waker. A failure calls another
-try 0
-try 1
-try 2
-try 3
+0..4 * try n
 poll 0 p => pending, wakes 0
-poll 1 v9 => pending
-poll 2 v9 => pending
-poll 3 v9 => pending
+1..4 * poll n v9 => pending
 drop 1 => so, wakes 1
 poll 0 e1 => e1, done, wakes 2
 drop 3 => so, wakes 3
@@ -48,13 +35,9 @@ drop 2
 show => OnceCell { value: None, inner: Inner { ready: false, quick_init: false, refcount: 0, queue: true } }
 
 # no_turn_while_another_holds: while another holds, a turn is not passed on: that one's failure calls the next
-try 0
-try 1
-try 2
-try 3
+0..4 * try n
 poll 0 p => pending, wakes 0
-poll 1 v9 => pending
-poll 2 v9 => pending
+1..3 * poll n v9 => pending
 poll 0 e1 => e1, done, wakes 1
 poll 3 p => pending, wakes 3
 drop 1
@@ -62,13 +45,9 @@ poll 3 e3 => e3, done, wakes 2
 poll 2 v2 => v2, done
 
 # listed_anew_behind_the_others: who was called and finds another holder lists itself anew, at the end
-try 0
-try 1
-try 2
-try 3
+0..4 * try n
 poll 0 p => pending, wakes 0
-poll 1 v9 => pending
-poll 2 v9 => pending
+1..3 * poll n v9 => pending
 poll 0 e1 => e1, done, wakes 1
 poll 3 p => pending, wakes 3
 poll 1 v9 => pending
@@ -77,31 +56,20 @@ poll 2 e2 => e2, done, wakes 1
 poll 1 v1 => v1, done
 
 # value_calls_all: the value calls all, also after a turn was given
-try 0
-try 1
-try 2
-try 3
+0..4 * try n
 poll 0 p => pending, wakes 0
-poll 1 v9 => pending
-poll 2 v9 => pending
-poll 3 v9 => pending
+1..4 * poll n v9 => pending
 poll 0 e1 => e1, done, wakes 1
 poll 1 v4 => v4, done, wakes 2 to 3
-poll 2 v9 => v4, done
-poll 3 v9 => v4, done
+2..4 * poll n v9 => v4, done
 
 # value_calls_all_behind_one_who_was_called: it calls those who are listed behind one who was called before, too
-try 0
-try 1
-try 2
-try 3
+0..4 * try n
 poll 0 p => pending, wakes 0
-poll 1 v9 => pending
-poll 2 v9 => pending
+1..3 * poll n v9 => pending
 poll 0 e1 => e1, done, wakes 1
 poll 3 v4 => v4, done, wakes 2
-poll 1 v9 => v4, done
-poll 2 v9 => v4, done
+1..3 * poll n v9 => v4, done
 
 # one_task_is_woken_of_1: however many wait, a failure wakes one task, and a value wakes all
 try 0
@@ -133,12 +101,9 @@ poll 1 v4 => v4, done, wakes 2 to 100
 inits => 3 polls, 101 drops
 
 # claimed_without_a_call: who finds the right free without a call takes its listing out, which wakes its task once more
-try 0
-try 1
-try 2
+0..3 * try n
 poll 0 p => pending, wakes 0
-poll 1 v9 => pending
-poll 2 v9 => pending
+1..3 * poll n v9 => pending
 poll 0 e1 => e1, done, wakes 1
 poll 2 v2 => v2, done, wakes 2
 drop 2
@@ -165,9 +130,7 @@ inits => 2 polls, 11 drops";
 // Schedules without memory: a waiter that is refused takes nobody's turn, and one that was woken needs none.
 const STARVED: &str = "\
 # listed_beside_who_waits: where the list has room, one more who waits takes no memory
-try 0
-try 1
-try 2
+0..3 * try n
 poll 0 p => pending, wakes 0
 poll 1 v9 => pending
 starve
@@ -187,9 +150,7 @@ poll 0 e1 => e1, done, wakes 1
 poll 1 v1 => v1, done, wakes 2 to 8
 
 # listed_anew_without_memory: who was called and finds another holder lists itself anew, where it was listed before
-try 0
-try 1
-try 2
+0..3 * try n
 poll 0 p => pending, wakes 0
 poll 1 v9 => pending
 starve
@@ -200,21 +161,21 @@ poll 2 v4 => v4, done, wakes 1
 poll 1 v9 => v4, done";
 
 #[test]
-fn memory_as_asked(rt: HostRuntime) -> Result<(), Fail> {
-    run(&rt, TURNS)
+fn memory_as_asked(rt: HostRuntime) {
+    run(&rt, TURNS);
 }
 
 #[test]
-fn starved(rt: HostRuntime) -> Result<(), Fail> {
-    run(&rt, STARVED)
+fn starved(rt: HostRuntime) {
+    run(&rt, STARVED);
 }
 
 #[test]
-fn each_request_refused(rt: HostRuntime) -> Result<(), Fail> {
+fn each_request_refused(rt: HostRuntime) -> Result<(), AllocError> {
     refuse_each(&rt, TURNS, 36)
 }
 
 #[test]
-fn no_memory_kept(rt: HostRuntime) -> Result<(), Fail> {
+fn no_memory_kept(rt: HostRuntime) -> Result<(), AllocError> {
     run_in_little(&rt, TURNS, 10)
 }

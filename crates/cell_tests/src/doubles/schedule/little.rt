@@ -1,11 +1,12 @@
 //! Schedules that run again and again in little memory.
 
-use super::{come_to, most, named, run_one};
+use super::{most, run_one};
+use crate::doubles::same;
 use machine_tests::doubles::memory::{hoard_most, hoard_rest};
-use std::alloc::AllocGlobal;
+use std::alloc::{AllocError, AllocGlobal};
+use std::process::Abort;
 use std::random::RandomSource;
 use std::sync::Wait;
-use std::test::Fail;
 
 // How many bytes there are for all runs of a schedule. One run needs less.
 const BYTES: usize = 131_072;
@@ -15,20 +16,17 @@ const RUNS: u64 = 4_100;
 
 // Whether every future is dropped in the end, memory is not short anyway, and few futures are made.
 fn needs_little(lines: &str) -> bool {
-    let forgets = lines
-        .lines()
-        .any(|line| line == "starve" || line.starts_with("forget "));
-    !forgets && most(lines) <= 12
+    !lines.contains("\nstarve") && !lines.contains("\nforget ") && most(lines) <= 12
 }
 
 // Runs a schedule so often.
-fn run_often<R>(rt: &R, name: &str, lines: &str) -> Result<(), Fail>
+fn run_often<R>(rt: &R, text: &str) -> Result<(), AllocError>
 where
-    R: Wait + AllocGlobal + RandomSource,
+    R: Wait + AllocGlobal + RandomSource + Abort,
 {
     let held = hoard_rest(rt.alloc(), BYTES)?;
     for _ in 0..RUNS {
-        run_one(rt, name, lines)?;
+        run_one(rt, text);
     }
     drop(held);
     Ok(())
@@ -36,19 +34,19 @@ where
 
 /// Runs each schedule four thousand times in memory that would not last if a run kept any. So many have to be run at
 /// least: one is passed over in which a future is forgotten, memory is short anyway, or more than a dozen futures wait.
-pub fn run_in_little<R>(rt: &R, schedules: &str, least: usize) -> Result<(), Fail>
+pub fn run_in_little<R>(rt: &R, schedules: &str, least: usize) -> Result<(), AllocError>
 where
-    R: Wait + AllocGlobal + RandomSource,
+    R: Wait + AllocGlobal + RandomSource + Abort,
 {
     let held = hoard_most(rt.alloc())?;
     let mut ran = 0usize;
-    for part in schedules.split("\n\n") {
-        let (name, lines) = named(part);
-        if needs_little(lines) {
-            run_often(rt, name, lines)?;
+    for text in schedules.split("\n\n") {
+        if needs_little(text) {
+            run_often(rt, text)?;
             ran = ran.saturating_add(1);
         }
     }
     drop(held);
-    come_to("schedules", ran, least)
+    same(rt, "schedules run in little memory", ran, ran.max(least));
+    Ok(())
 }

@@ -1,6 +1,6 @@
 //! What a schedule is about: the tasks, the inits and the cells, and what they show.
 
-use crate::doubles::made::Made;
+use crate::doubles::made::{Made, text_of};
 use crate::doubles::other::{Meddling, Other};
 use crate::doubles::poll::{calm, heard, tasks};
 use crate::doubles::stub::{Init, Stub, Tried};
@@ -27,12 +27,16 @@ impl fmt::Display for Outcome {
             Outcome::Unreadable => f.write_str("unreadable"),
             Outcome::Polled(reply, is_done) => {
                 let done = if is_done { ", done" } else { "" };
-                match reply {
-                    Reply::Pending => write!(f, "pending{done}"),
-                    Reply::Value(value) => write!(f, "v{value}{done}"),
-                    Reply::Error(error) => write!(f, "e{error}{done}"),
-                    Reply::Memory => write!(f, "memory{done}"),
-                    Reply::Full => write!(f, "full{done}"),
+                let (word, number) = match reply {
+                    Reply::Pending => ("pending", None),
+                    Reply::Value(value) => ("v", Some(value)),
+                    Reply::Error(error) => ("e", Some(error)),
+                    Reply::Memory => ("memory", None),
+                    Reply::Full => ("full", None),
+                };
+                match number {
+                    Some(number) => write!(f, "{word}{number}{done}"),
+                    None => write!(f, "{word}{done}"),
                 }
             }
         }
@@ -102,6 +106,13 @@ impl Inits {
         }
     }
 
+    /// Has inits answer as a line says, which has `s` for Pending too, where they ask for nothing.
+    pub fn tell(&self, text: &str) {
+        self.tried.is_silent.set(text == "s");
+        self.sure.is_silent.set(text == "s");
+        self.set(answer_in(text));
+    }
+
     pub fn set(&self, answer: Option<Tried>) {
         self.tried.answer.set(answer);
         self.sure.answer.set(answer.and_then(Result::ok));
@@ -118,6 +129,14 @@ impl Inits {
     pub fn drops(&self) -> u64 {
         self.sure.drops.get().wrapping_add(self.tried.drops.get())
     }
+}
+
+// `v` with a value, or `e` with an error. None stands for Pending.
+fn answer_in(text: &str) -> Option<Tried> {
+    if let Some(value) = text.strip_prefix('v') {
+        return Some(Ok(value.parse().ok()?));
+    }
+    Some(Err(text.strip_prefix('e')?.parse().ok()?))
 }
 
 /// What the futures of a schedule are made of.
@@ -157,13 +176,11 @@ impl<'o, 'a: 'o, 'i: 'o, R: Wait + AllocGlobal> Scene<'o, 'a, 'i, R> {
     }
 
     pub fn shown(&self) -> Result<String, AllocError> {
-        let cell = self.cell;
-        format!(in self.rt.alloc(); "{cell:?}")
+        text_of(self.rt.alloc(), self.cell)
     }
 
     pub fn shown_lazy(&self) -> Result<String, AllocError> {
-        let (lazy, value) = (self.lazy, self.lazy.try_get());
-        format!(in self.rt.alloc(); "{value:?}, {lazy:?}")
+        text_of(self.rt.alloc(), &(self.lazy.try_get(), self.lazy))
     }
 
     pub fn counted(&self) -> Result<String, AllocError> {
@@ -171,27 +188,30 @@ impl<'o, 'a: 'o, 'i: 'o, R: Wait + AllocGlobal> Scene<'o, 'a, 'i, R> {
         format!(in self.rt.alloc(); "{polls} polls, {drops} drops")
     }
 
-    /// What an init found that looked at its cell, and what the other future answered at last.
+    /// What an init found that looked at its cell, or what the other future answered at last.
     pub fn found(&self) -> Result<String, AllocError> {
-        let (found, heard) = (self.other.found.get(), self.other.heard.get());
-        match heard {
-            Some(reply) => format!(in self.rt.alloc(); "{reply:?}"),
-            None => format!(in self.rt.alloc(); "{found:?}"),
+        let alloc = self.rt.alloc();
+        match self.other.heard.get() {
+            Some(reply) => text_of(alloc, &reply),
+            None => text_of(alloc, &self.other.found.get()),
         }
     }
 
     /// What the cell lends, what a new token knows, and what it answers to a look and knows then.
     pub fn looked(&self) -> Result<String, AllocError> {
-        let cell = self.cell;
-        let (fresh, mut token) = (cell.token(), cell.token());
-        let found = [cell.get().copied(), cell.get_as(&mut token).copied()];
-        format!(in self.rt.alloc(); "{found:?}, {fresh:?}, {token:?}")
+        let (fresh, mut token) = (self.cell.token(), self.cell.token());
+        let found = [
+            self.cell.get().copied(),
+            self.cell.get_as(&mut token).copied(),
+        ];
+        text_of(self.rt.alloc(), &(found, fresh, token))
     }
 
     /// What a new future answers to one poll by the first task with a new token, which looked at the cell before if it
-    /// `knows`. Then what the token knows, and how many inits were dropped by then.
-    pub fn asked(&self, knows: bool) -> Result<String, AllocError> {
+    /// `knows`. Its init answers as the text says. Then what the token knows, and how many inits were dropped by then.
+    pub fn asked(&self, knows: bool, answer: &str) -> Result<String, AllocError> {
         let (cell, tasks) = (self.cell, self.tasks);
+        self.inits.tell(answer);
         let mut token = cell.token();
         if knows {
             let _ = cell.get_as(&mut token);
