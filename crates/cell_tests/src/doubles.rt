@@ -3,13 +3,11 @@
 pub mod expected;
 pub mod made;
 pub mod other;
-
-pub use machine_tests::doubles::poll;
-
 pub mod schedule;
 pub mod stub;
 pub mod value;
 
+pub use cell_doubles::poll;
 use futures::test::MockTask;
 use std::alloc::AllocGlobal;
 use std::fmt::Debug;

@@ -12,7 +12,6 @@ mod bell;
 mod book_uses;
 #[cfg(test)]
 mod calls;
-pub mod doubles;
 #[cfg(test)]
 mod fills;
 #[cfg(test)]

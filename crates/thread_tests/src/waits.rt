@@ -9,11 +9,11 @@ use futures::Future;
 use futures::channel::oneshot::{Canceled, Receiver, Sender, channel};
 use futures::future::ready;
 use futures::task::{Context, Poll};
-use machine_tests::doubles::memory::hoard;
 use std::alloc::AllocError;
 use std::test::Fail;
 use std::thread;
 use std::time::Duration;
+use test_doubles::memory::hoard;
 
 // What a token is told by two waits, of which the second keeps its parker, and another token by a third.
 fn told_by_tokens<R: Host>(rt: &R, tally: &Tally, parker: &mut Parker) -> [Option<Reply>; 3] {

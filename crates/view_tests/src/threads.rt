@@ -6,10 +6,10 @@
 use crate::seen::run_of;
 use async_once_cell::record::{Entry, Kind, Ran, Reply};
 use async_once_cell::{OnceCell, TryInitFuture};
+use cell_doubles::poll::{heard, tasks};
 use futures::Future;
 use futures::task::{Context, Poll};
 use futures::test::MockTask;
-use machine_tests::doubles::poll::{heard, tasks};
 use once_view::observed::{Event, Observed};
 use rand_core::{Rng, SeedableRng};
 use rand_xoshiro::Xoshiro256PlusPlus;

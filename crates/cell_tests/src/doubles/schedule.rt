@@ -37,7 +37,6 @@ use crate::doubles::same;
 use crate::doubles::stub::Init;
 use async_once_cell::{Lazy, OnceCell};
 pub use little::run_in_little;
-use machine_tests::doubles::memory::hoard;
 pub use refusals::refuse_each;
 use scene::{Inits, Outcome, Scene, Tasks};
 use std::alloc::{AllocError, AllocGlobal, Global};
@@ -45,6 +44,7 @@ use std::mem;
 use std::process::Abort;
 use std::random::RandomSource;
 use std::sync::Wait;
+use test_doubles::memory::hoard;
 
 // How many futures and tasks a schedule has, which are numbered from 0: one more than its greatest number, and two at
 // least.

@@ -6,11 +6,11 @@ use async_once_cell::OnceCell;
 use async_once_cell::once::InitFuture;
 use futures::future::pending;
 use futures::test::MockTask;
-use machine_tests::doubles::memory::{Rations, hoard_most};
 use std::alloc::{AllocError, AllocGlobal};
 use std::cell::Cell;
 use std::sync::Wait;
 use std::test::Fail;
+use test_doubles::memory::{Rations, hoard_most};
 
 // A cell that its owner, or else a future, gave a value, which counts here when it is dropped.
 fn filled<'d, R: Wait + AllocGlobal>(

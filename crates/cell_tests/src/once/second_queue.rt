@@ -7,10 +7,10 @@ use crate::doubles::{same, three_tasks};
 use async_once_cell::OnceCell;
 use async_once_cell::record::Reply;
 use futures::test::MockTask;
-use machine_tests::doubles::memory::{hoard_most, hoard_rest};
 use std::alloc::{Alloc, AllocGlobal, Global};
 use std::sync::Wait;
 use std::test::Fail;
+use test_doubles::memory::{hoard_most, hoard_rest};
 
 // A handle by which another future is polled before it gives memory for the first time.
 #[derive(Drop)]

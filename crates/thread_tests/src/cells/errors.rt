@@ -5,14 +5,14 @@ use crate::doubles::work::{Gate, Host, Hosts, Meeting, Work, by_threads, same};
 use async_once_cell::once::TryInitFuture;
 use async_once_cell::record::Reply;
 use async_once_cell::{OnceCell, Parker};
+use cell_doubles::poll::{heard, polled};
 use futures::Future;
 use futures::future::ready;
 use futures::test::MockTask;
-use machine_tests::doubles::left::is_filled;
-use machine_tests::doubles::poll::{heard, polled};
 use std::alloc::AllocError;
 use std::io;
 use std::test::Fail;
+use test_doubles::left::is_filled;
 
 const CELLS: u64 = 300;
 

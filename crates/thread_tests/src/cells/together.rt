@@ -3,12 +3,12 @@
 use crate::doubles::work::{Host, Hosts, Meeting, Work, by_threads, same};
 use async_once_cell::record::Reply;
 use async_once_cell::{OnceCell, Parker};
+use cell_doubles::poll::polled;
 use futures::future::{pending, ready};
 use futures::test::MockTask;
-use machine_tests::doubles::left::has_text;
-use machine_tests::doubles::poll::polled;
 use std::io;
 use std::test::Fail;
+use test_doubles::left::has_text;
 
 const LOOKS: u64 = 300_000;
 

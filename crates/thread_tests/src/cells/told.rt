@@ -11,10 +11,10 @@ use futures::executor::block_on;
 use futures::future::ready;
 use futures::task::{Context, Poll};
 use futures::test::MockTask;
-use machine_tests::doubles::left::is_filled;
 use std::test::Fail;
 use std::time::Duration;
 use std::{mem, thread};
+use test_doubles::left::is_filled;
 
 const TIMES: u64 = 20;
 

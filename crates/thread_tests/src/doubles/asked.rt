@@ -8,15 +8,15 @@ use async_once_cell::record::Reply;
 use async_once_cell::{
     self as cells, Failure, Initializing, Lazy, LazyFuturePin, OnceCell, Parker,
 };
+use cell_doubles::poll::Refusal;
 use futures::Future;
 use futures::executor::block_on;
 use futures::task::{Context, Poll};
 use futures::test::MockTask;
-use machine_tests::doubles::left::{is_filled, is_free};
-use machine_tests::doubles::poll::Refusal;
 use std::fmt::Debug;
 use std::time::Duration;
 use std::{io, thread};
+use test_doubles::left::{is_filled, is_free};
 
 /// What a thread does with a future.
 #[derive(Clone, Copy)]

@@ -2,10 +2,10 @@
 
 use crate::doubles::counted::Tried;
 use async_once_cell::Parker;
+use cell_doubles::poll::tasks;
 use futures::Future;
 use futures::task::{Context, Poll};
 use futures::test::MockTask;
-use machine_tests::doubles::poll::tasks;
 use std::alloc::AllocGlobal;
 use std::fmt::Debug;
 use std::io;

@@ -2,11 +2,11 @@
 
 use super::{most, run_one};
 use crate::doubles::same;
-use machine_tests::doubles::memory::{hoard_most, hoard_rest};
 use std::alloc::{AllocError, AllocGlobal};
 use std::process::Abort;
 use std::random::RandomSource;
 use std::sync::Wait;
+use test_doubles::memory::{hoard_most, hoard_rest};
 
 // How many bytes there are for all runs of a schedule. One run needs less.
 const BYTES: usize = 131_072;

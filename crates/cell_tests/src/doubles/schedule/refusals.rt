@@ -10,11 +10,11 @@ use crate::doubles::stub::Init;
 use async_once_cell::record::Reply;
 use async_once_cell::{Lazy, OnceCell};
 use futures::test::MockTask;
-use machine_tests::doubles::memory::{Rations, Request, hoard_most};
 use std::alloc::{AllocError, AllocGlobal};
 use std::process::Abort;
 use std::random::RandomSource;
 use std::sync::Wait;
+use test_doubles::memory::{Rations, Request, hoard_most};
 
 // How often a woken future is polled until all are finished.
 const POLLS: u64 = 10;
