@@ -2,7 +2,7 @@
 
 use super::scene::{Inits, Scene, Tasks};
 use super::{Schedule, most, turns_in};
-use crate::doubles::made::Made;
+use crate::doubles::made::{Made, text_of};
 use crate::doubles::other::Other;
 use crate::doubles::poll::wake;
 use crate::doubles::same;
@@ -88,7 +88,8 @@ impl<'o, 'a: 'o, 'i: 'o, R: Wait + AllocGlobal> Schedule<'o, 'a, 'i, R> {
 impl<'o, 'a: 'o, 'i: 'o, R: Wait + AllocGlobal> Scene<'o, 'a, 'i, R> {
     // Whether nobody is left in the cells, and a new future of each has its value.
     fn works(&self) -> bool {
-        let are_left = is_left(self.shown()) & is_left(self.shown_lazy());
+        let alloc = self.rt.alloc();
+        let are_left = is_left(self.shown()) & is_left(text_of(alloc, self.lazy));
         let value = self.cell.get().copied().unwrap_or(7);
         let own = self.lazy.try_get().copied().unwrap_or(7);
         self.inits.set(Some(Ok(7)));
