@@ -7,7 +7,8 @@ use async_once_cell::OnceCell;
 use async_once_cell::once::{InitError, TryInitFuture};
 use futures::Future;
 use futures::task::{Context, Poll};
-use std::alloc::{AllocError, AllocGlobal};
+use std::alloc::AllocGlobal;
+use std::io;
 use std::sync::Wait;
 
 type Trying<'a, R> = TryInitFuture<'a, u64, u64, Failing, R>;
@@ -18,7 +19,7 @@ fn polled<'a, R: Wait + AllocGlobal>(
     cell: &'a OnceCell<u64>,
     number: usize,
     cx: &mut Context<'_>,
-) -> Result<Vec<Trying<'a, R>>, AllocError> {
+) -> io::Result<Vec<Trying<'a, R>>> {
     let mut futures = Vec::with_capacity(rt.alloc(), number)?;
     for _ in 0..number {
         let mut future = cell.get_or_try_init(rt, Failing::new());
@@ -34,7 +35,7 @@ fn waiting<'a, R: Wait + AllocGlobal>(
     cell: &'a OnceCell<u64>,
     number: usize,
     cx: &mut Context<'_>,
-) -> Result<Vec<Trying<'a, R>>, AllocError> {
+) -> io::Result<Vec<Trying<'a, R>>> {
     let mut first = cell.get_or_try_init(rt, Failing::new());
     number_of(Future::poll(&mut first, cx));
     polled(rt, cell, number, cx)
@@ -47,19 +48,30 @@ pub fn failures<R: Wait + AllocGlobal>(
     number: usize,
     count: u64,
     cx: &mut Context<'_>,
-) -> Result<u64, AllocError> {
+) -> io::Result<u64> {
     let cell = OnceCell::new();
     let mut waiters = waiting(rt, &cell, number, cx)?;
+    Ok(fail(rt, &cell, waiters.as_mut_slice(), count, cx))
+}
+
+// Fails so many times. The waiters are woken in turn.
+fn fail<'a, R: Wait + AllocGlobal>(
+    rt: &'a R,
+    cell: &'a OnceCell<u64>,
+    waiters: &mut [Trying<'a, R>],
+    count: u64,
+    cx: &mut Context<'_>,
+) -> u64 {
     let mut sum: u64 = 0;
     let mut called = 0;
     for _ in 0..count {
-        sum = sum.wrapping_add(failure(rt, &cell, waiters.get_mut(called), cx));
+        sum = sum.wrapping_add(failure(rt, cell, waiters.get_mut(called), cx));
         called = called.wrapping_add(1);
-        if called >= number {
+        if called >= waiters.len() {
             called = 0;
         }
     }
-    Ok(sum)
+    sum
 }
 
 fn failure<'a, R: Wait + AllocGlobal>(
@@ -83,7 +95,7 @@ pub fn turns<R: Wait + AllocGlobal>(
     number: usize,
     count: u64,
     cx: &mut Context<'_>,
-) -> Result<u64, AllocError> {
+) -> io::Result<u64> {
     let mut sum: u64 = 0;
     for _ in 0..count {
         sum = sum.wrapping_add(all_turns(rt, number, cx)?);
@@ -95,16 +107,19 @@ fn all_turns<R: Wait + AllocGlobal>(
     rt: &R,
     number: usize,
     cx: &mut Context<'_>,
-) -> Result<u64, AllocError> {
+) -> io::Result<u64> {
     let cell = OnceCell::new();
     let mut futures = polled(rt, &cell, number.saturating_add(1), cx)?;
-    match futures.split_first_mut() {
-        Some((holder, waiters)) => {
-            let sum = number_of(Future::poll(holder, cx));
-            Ok(sum.wrapping_add(poll_twice(waiters, cx)))
-        }
-        None => Ok(0),
-    }
+    Ok(poll_in_turn(futures.as_mut_slice(), cx))
+}
+
+// Polls the holder, which fails, and then each waiter in its turn.
+fn poll_in_turn<R: Wait + AllocGlobal>(futures: &mut [Trying<'_, R>], cx: &mut Context<'_>) -> u64 {
+    let Some((holder, waiters)) = futures.split_first_mut() else {
+        return 0;
+    };
+    let sum = number_of(Future::poll(holder, cx));
+    sum.wrapping_add(poll_twice(waiters, cx))
 }
 
 // Polls each twice: it gets the right, and fails.

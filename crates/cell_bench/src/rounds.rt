@@ -12,7 +12,7 @@ use async_once_cell::{Lazy, OnceCell};
 use futures::Future;
 use futures::future::{Ready, ready};
 use futures::task::{Context, Poll};
-use std::alloc::{AllocError, AllocGlobal};
+use std::alloc::AllocGlobal;
 use std::cell::Cell;
 use std::io;
 use std::random::RandomSource;
@@ -46,22 +46,51 @@ where
     R: Wait + RandomSource + AllocGlobal + Threads + Sync,
 {
     match name {
-        "get" => Ok(get(&filled(rt, cx), count)),
         "init" => Ok(init(rt, count, cx)),
-        "late" => Ok(late(rt, &filled(rt, cx), count, cx)),
-        "listed" => Ok(listed(rt, count, cx)?),
-        "get_threads2" => Ok(looks_of_two(rt, &filled(rt, cx), count)),
-        "get_threads4" => Ok(looks_of_four(rt, &filled(rt, cx), count)),
-        "init_threads2" => fills_of_two(rt, &cells(rt, count)?),
-        "init_threads4" => fills_of_four(rt, &cells(rt, count)?),
+        "listed" => listed(rt, count, cx),
         "lazy_first" => Ok(lazy_first(rt, count, cx)),
-        "lazy_later" => Ok(lazy_later(rt, &filled_lazy(rt, cx), count, cx)),
+        "lazy_later" => Ok(perform_on_lazy(rt, count, cx)),
         "wait_new" => new_cells(rt, count),
-        "wait_set" => set_cell(rt, &filled(rt, cx), count),
         "wait_kept" => kept_parker(rt, count),
         "lost_wake" => lost(rt, count),
+        "init_threads2" | "init_threads4" => perform_on_new(rt, name, count),
+        "get" | "late" | "get_threads2" | "get_threads4" | "wait_set" => {
+            perform_on_set(rt, name, count, cx)
+        }
         _ => perform_with_waiters(rt, name, count, cx),
     }
+}
+
+// Makes an operation of threads that fill new cells.
+fn perform_on_new<R>(rt: &R, name: &str, count: u64) -> io::Result<u64>
+where
+    R: Wait + RandomSource + AllocGlobal + Threads + Sync,
+{
+    let cells = cells(rt, count)?;
+    match name {
+        "init_threads2" => fills_of_two(rt, &cells),
+        _ => fills_of_four(rt, &cells),
+    }
+}
+
+// Makes an operation of a cell that is set.
+fn perform_on_set<R>(rt: &R, name: &str, count: u64, cx: &mut Context<'_>) -> io::Result<u64>
+where
+    R: Wait + RandomSource + AllocGlobal + Threads + Sync,
+{
+    let cell = filled(rt, cx);
+    match name {
+        "get" => Ok(get(&cell, count)),
+        "late" => Ok(late(rt, &cell, count, cx)),
+        "get_threads2" => Ok(looks_of_two(rt, &cell, count)),
+        "get_threads4" => Ok(looks_of_four(rt, &cell, count)),
+        _ => set_cell(rt, &cell, count),
+    }
+}
+
+// Makes the operation of a lazy cell that is set.
+fn perform_on_lazy<R: Wait + AllocGlobal>(rt: &R, count: u64, cx: &mut Context<'_>) -> u64 {
+    lazy_later(rt, &filled_lazy(rt, cx), count, cx)
 }
 
 // Makes an operation whose name ends with how many wait.
@@ -72,10 +101,10 @@ where
     let word = name.trim_end_matches(|c: char| c.is_ascii_digit());
     let digits = name.strip_prefix(word).unwrap_or("");
     match (word, digits.parse::<usize>()) {
-        ("waiters", Ok(number)) => Ok(waiters(rt, number, count, cx)?),
-        ("drops", Ok(number)) => Ok(drops(rt, number, count, cx)?),
-        ("failure", Ok(number)) => Ok(failures(rt, number, count, cx)?),
-        ("turns", Ok(number)) => Ok(turns(rt, number, count, cx)?),
+        ("waiters", Ok(number)) => waiters(rt, number, count, cx),
+        ("drops", Ok(number)) => drops(rt, number, count, cx),
+        ("failure", Ok(number)) => failures(rt, number, count, cx),
+        ("turns", Ok(number)) => turns(rt, number, count, cx),
         _ => Err(io::Error::other("there is no such operation")),
     }
 }
@@ -134,7 +163,7 @@ fn futures_of<'a, R: Wait + AllocGlobal>(
     cell: &'a OnceCell<u64>,
     switch: &'a Cell<bool>,
     number: usize,
-) -> Result<Vec<Waiting<'a, R>>, AllocError> {
+) -> io::Result<Vec<Waiting<'a, R>>> {
     let mut futures = Vec::with_capacity(rt.alloc(), number)?;
     for _ in 0..number {
         futures.push(cell.get_or_init(rt, Switched::new(switch)))?;
@@ -152,19 +181,25 @@ fn poll_each<R: Wait + AllocGlobal>(futures: &mut [Waiting<'_, R>], cx: &mut Con
 }
 
 #[inline(never)]
-fn listed<R: Wait + AllocGlobal>(
-    rt: &R,
-    count: u64,
-    cx: &mut Context<'_>,
-) -> Result<u64, AllocError> {
+fn listed<R: Wait + AllocGlobal>(rt: &R, count: u64, cx: &mut Context<'_>) -> io::Result<u64> {
     let (cell, switch) = (OnceCell::new(), Cell::new(false));
     let mut futures = futures_of(rt, &cell, &switch, 2)?;
-    let mut sum = poll_each(futures.as_mut_slice(), cx);
+    Ok(poll_second(futures.as_mut_slice(), &switch, count, cx))
+}
+
+// Polls each, the second so many times more, and each again once the switch is on.
+fn poll_second<R: Wait + AllocGlobal>(
+    futures: &mut [Waiting<'_, R>],
+    switch: &Cell<bool>,
+    count: u64,
+    cx: &mut Context<'_>,
+) -> u64 {
+    let mut sum = poll_each(futures, cx);
     if let Some(waiter) = futures.get_mut(1) {
         sum = sum.wrapping_add(poll_often(waiter, count, cx));
     }
     switch.set(true);
-    Ok(sum.wrapping_add(poll_each(futures.as_mut_slice(), cx)))
+    sum.wrapping_add(poll_each(futures, cx))
 }
 
 fn poll_often<R: Wait + AllocGlobal>(
@@ -185,7 +220,7 @@ fn waiters<R: Wait + AllocGlobal>(
     waiting: usize,
     count: u64,
     cx: &mut Context<'_>,
-) -> Result<u64, AllocError> {
+) -> io::Result<u64> {
     let mut sum: u64 = 0;
     for _ in 0..count {
         sum = sum.wrapping_add(round(rt, waiting, cx)?);
@@ -193,16 +228,21 @@ fn waiters<R: Wait + AllocGlobal>(
     Ok(sum)
 }
 
-fn round<R: Wait + AllocGlobal>(
-    rt: &R,
-    waiting: usize,
-    cx: &mut Context<'_>,
-) -> Result<u64, AllocError> {
+fn round<R: Wait + AllocGlobal>(rt: &R, waiting: usize, cx: &mut Context<'_>) -> io::Result<u64> {
     let (cell, switch) = (OnceCell::new(), Cell::new(false));
     let mut futures = futures_of(rt, &cell, &switch, waiting.saturating_add(1))?;
-    let sum = poll_each(futures.as_mut_slice(), cx);
+    Ok(poll_all_twice(futures.as_mut_slice(), &switch, cx))
+}
+
+// Polls each, and each again once the switch is on.
+fn poll_all_twice<R: Wait + AllocGlobal>(
+    futures: &mut [Waiting<'_, R>],
+    switch: &Cell<bool>,
+    cx: &mut Context<'_>,
+) -> u64 {
+    let sum = poll_each(futures, cx);
     switch.set(true);
-    Ok(sum.wrapping_add(poll_each(futures.as_mut_slice(), cx)))
+    sum.wrapping_add(poll_each(futures, cx))
 }
 
 // Nobody gets a value, so the sum is 0.
@@ -212,7 +252,7 @@ fn drops<R: Wait + AllocGlobal>(
     waiting: usize,
     count: u64,
     cx: &mut Context<'_>,
-) -> Result<u64, AllocError> {
+) -> io::Result<u64> {
     let mut sum: u64 = 0;
     for _ in 0..count {
         sum = sum.wrapping_add(all_dropped(rt, waiting, cx)?);
@@ -224,12 +264,22 @@ fn all_dropped<R: Wait + AllocGlobal>(
     rt: &R,
     waiting: usize,
     cx: &mut Context<'_>,
-) -> Result<u64, AllocError> {
+) -> io::Result<u64> {
     let (cell, switch) = (OnceCell::new(), Cell::new(false));
-    let mut holder = futures_of(rt, &cell, &switch, 1)?;
-    let mut waiters = futures_of(rt, &cell, &switch, waiting)?;
-    let sum = poll_each(holder.as_mut_slice(), cx);
-    Ok(sum.wrapping_add(poll_each(waiters.as_mut_slice(), cx)))
+    let mut futures = futures_of(rt, &cell, &switch, waiting.saturating_add(1))?;
+    Ok(poll_last_first(futures.as_mut_slice(), cx))
+}
+
+// Polls the last, which holds then, and each other. They are dropped in their order, so the holder is the last.
+fn poll_last_first<R: Wait + AllocGlobal>(
+    futures: &mut [Waiting<'_, R>],
+    cx: &mut Context<'_>,
+) -> u64 {
+    let Some((holder, waiters)) = futures.split_last_mut() else {
+        return 0;
+    };
+    let sum = value_of(Future::poll(holder, cx));
+    sum.wrapping_add(poll_each(waiters, cx))
 }
 
 #[inline(never)]
