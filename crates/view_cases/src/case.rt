@@ -2,50 +2,12 @@
 
 use crate::host::{Given, Host};
 use crate::left::{Left, Part, Wanted};
-use crate::text::{bytes_in, counted, with_lines};
+use crate::text::{byte_of, counted, with_lines};
 use once_script::replay;
 use once_view::program::{judge_record, show_script};
-use std::alloc::{AllocError, AllocFailed, AllocGlobal, Global};
+use std::alloc::{AllocGlobal, Global};
 use std::fs::Files;
 use std::io::ErrorKind;
-
-/// Why a case is not read.
-#[derive(Clone, Copy)]
-pub enum BadCase<'t> {
-    /// This line is the first that can't be read.
-    Line(&'t str),
-    /// Memory was refused.
-    Memory,
-}
-
-// Why a line is not read.
-#[derive(Clone, Copy)]
-enum BadLine {
-    // It has an unknown mark, or another form.
-    Form,
-    Memory,
-}
-
-impl BadLine {
-    fn at(self, line: &str) -> BadCase<'_> {
-        match self {
-            BadLine::Form => BadCase::Line(line),
-            BadLine::Memory => BadCase::Memory,
-        }
-    }
-}
-
-impl From<AllocError> for BadLine {
-    fn from(_error: AllocError) -> BadLine {
-        BadLine::Memory
-    }
-}
-
-impl<T: Drop> From<AllocFailed<T>> for BadLine {
-    fn from(_error: AllocFailed<T>) -> BadLine {
-        BadLine::Memory
-    }
-}
 
 /// A program.
 #[derive(Clone, Copy)]
@@ -75,34 +37,34 @@ pub struct Case<'t> {
     // How the first read fails, and how each write.
     read: Option<ErrorKind>,
     write: Option<ErrorKind>,
-    wanted: Wanted<'t>,
+    /// What has to be left.
+    pub wanted: Wanted<'t>,
 }
 
 impl<'t> Case<'t> {
-    /// Reads the lines of a case after the first.
-    pub fn read(alloc: Global, text: &'t str) -> Result<Self, BadCase<'t>> {
+    /// Reads the lines of a case after the first. An error is the first that can't be read: it has an unknown mark, or
+    /// another form, or memory was refused.
+    pub fn read(alloc: Global, text: &'t str) -> Result<Self, &'t str> {
         let mut lines = text.split('\n');
         let call = lines.next().unwrap_or("");
-        let mut case = Case::of_call(alloc, call).map_err(|bad| bad.at(call))?;
+        let Some(mut case) = Case::of_call(alloc, call) else {
+            return Err(call);
+        };
         for line in lines {
-            let (mark, rest) = line.split_once(' ').unwrap_or((line, ""));
-            case.take(alloc, mark, rest).map_err(|bad| bad.at(line))?;
+            if !case.take(alloc, line) {
+                return Err(line);
+            }
         }
         Ok(case)
     }
 
     // The case that begins with this line, `$ PROGRAM WORD ..`.
-    fn of_call(alloc: Global, line: &'t str) -> Result<Self, BadLine> {
-        let call = line.strip_prefix("$ ").ok_or(BadLine::Form)?;
-        let (name, words) = call.split_once(' ').unwrap_or((call, ""));
-        let words = if words.is_empty() {
-            Vec::new(alloc)
-        } else {
-            words.split(' ').collect(alloc)?
-        };
-        Ok(Case {
-            program: Program::of(name).ok_or(BadLine::Form)?,
-            words,
+    fn of_call(alloc: Global, line: &'t str) -> Option<Self> {
+        let mut words = line.strip_prefix("$ ")?.split(' ');
+        let program = Program::of(words.next().unwrap_or(""))?;
+        Some(Case {
+            program,
+            words: words.collect(alloc).ok()?,
             input: Vec::new(alloc),
             read: None,
             write: None,
@@ -110,12 +72,13 @@ impl<'t> Case<'t> {
         })
     }
 
-    // Takes one more line.
-    fn take(&mut self, alloc: Global, mark: &str, rest: &'t str) -> Result<(), BadLine> {
+    // Takes one more line. The answer is whether it can be read, here and below.
+    fn take(&mut self, alloc: Global, line: &'t str) -> bool {
+        let (mark, rest) = line.split_once(' ').unwrap_or((line, ""));
         match mark {
-            "<" => self.give(with_lines(alloc, rest)?.as_str()),
-            "<*" => self.give(counted(alloc, rest)?.ok_or(BadLine::Form)?.as_str()),
-            "<x" => self.give_bytes(bytes_in(alloc, rest)?),
+            "<" => self.give(with_lines(alloc, rest)),
+            "<*" => self.give(counted(alloc, rest)),
+            "<x" => self.give_bytes(rest),
             "!" => self.fail(rest),
             "=" => self.end(rest),
             _ => self.want(alloc, mark, rest),
@@ -123,58 +86,64 @@ impl<'t> Case<'t> {
     }
 
     // Takes one more line, which says what is printed or said.
-    fn want(&mut self, alloc: Global, mark: &str, rest: &'t str) -> Result<(), BadLine> {
-        let wanted = &mut self.wanted;
+    fn want(&mut self, alloc: Global, mark: &str, rest: &'t str) -> bool {
         match mark {
-            ">" => wanted.printed.push_str(with_lines(alloc, rest)?.as_str())?,
-            ">*" => {
-                let text = counted(alloc, rest)?.ok_or(BadLine::Form)?;
-                wanted.printed.push_str(text.as_str())?;
-            }
-            "2>" => wanted.said.push_str(with_lines(alloc, rest)?.as_str())?,
-            "+" => wanted.parts.push(Part::Printed(rest))?,
-            "-" => wanted.parts.push(Part::NotPrinted(rest))?,
-            "2+" => wanted.parts.push(Part::Said(rest))?,
-            _ => return Err(BadLine::Form),
+            ">" => add(&mut self.wanted.printed, with_lines(alloc, rest)),
+            ">*" => add(&mut self.wanted.printed, counted(alloc, rest)),
+            "2>" => add(&mut self.wanted.said, with_lines(alloc, rest)),
+            "+" => self.want_part(Part::Printed(rest)),
+            "-" => self.want_part(Part::NotPrinted(rest)),
+            "2+" => self.want_part(Part::Said(rest)),
+            _ => false,
         }
-        Ok(())
     }
 
-    fn give(&mut self, text: &str) -> Result<(), BadLine> {
-        self.input.extend_from_slice(text.as_bytes())?;
-        Ok(())
+    fn want_part(&mut self, part: Part<'t>) -> bool {
+        self.wanted.parts.push(part).is_ok()
     }
 
-    fn give_bytes(&mut self, bytes: Option<Vec<u8>>) -> Result<(), BadLine> {
-        let bytes = bytes.ok_or(BadLine::Form)?;
-        self.input.extend_from_slice(bytes.as_slice())?;
-        Ok(())
+    fn give(&mut self, text: Option<String>) -> bool {
+        match text {
+            Some(text) => self.input.extend_from_slice(text.as_bytes()).is_ok(),
+            None => false,
+        }
     }
 
-    fn end(&mut self, status: &str) -> Result<(), BadLine> {
+    fn give_bytes(&mut self, rest: &str) -> bool {
+        let mut is_read = true;
+        for word in rest.split(' ') {
+            is_read &= self.give_byte(byte_of(word));
+        }
+        is_read
+    }
+
+    fn give_byte(&mut self, byte: Option<u8>) -> bool {
+        match byte {
+            Some(byte) => self.input.push(byte).is_ok(),
+            None => false,
+        }
+    }
+
+    fn end(&mut self, status: &str) -> bool {
         match status.parse() {
-            Ok(status) => self.wanted.status = status,
-            Err(_) => return Err(BadLine::Form),
+            Ok(status) => {
+                self.wanted.status = status;
+                true
+            }
+            Err(_) => false,
         }
-        Ok(())
     }
 
     // Takes what fails: `read KIND` or `write KIND`.
-    fn fail(&mut self, line: &str) -> Result<(), BadLine> {
+    fn fail(&mut self, line: &str) -> bool {
         let (stream, kind) = line.split_once(' ').unwrap_or((line, ""));
-        let kind = match kind {
-            "reset" => ErrorKind::ConnectionReset,
-            "memory" => ErrorKind::OutOfMemory,
-            "full" => ErrorKind::StorageFull,
-            "pipe" => ErrorKind::BrokenPipe,
-            _ => return Err(BadLine::Form),
-        };
+        let kind = kind_of(kind);
         match stream {
-            "read" => self.read = Some(kind),
-            "write" => self.write = Some(kind),
-            _ => return Err(BadLine::Form),
+            "read" => self.read = kind,
+            "write" => self.write = kind,
+            _ => return false,
         }
-        Ok(())
+        kind.is_some()
     }
 
     /// Runs the program.
@@ -186,10 +155,22 @@ impl<'t> Case<'t> {
         };
         run_on(files, self.program, host, input)
     }
+}
 
-    /// What does not hold of what is left, if anything.
-    pub fn fault_of(&self, alloc: Global, left: &Left) -> Result<Option<String>, AllocError> {
-        self.wanted.fault_of(alloc, left)
+fn add(text: &mut String, more: Option<String>) -> bool {
+    match more {
+        Some(more) => text.push_str(more.as_str()).is_ok(),
+        None => false,
+    }
+}
+
+fn kind_of(word: &str) -> Option<ErrorKind> {
+    match word {
+        "reset" => Some(ErrorKind::ConnectionReset),
+        "memory" => Some(ErrorKind::OutOfMemory),
+        "full" => Some(ErrorKind::StorageFull),
+        "pipe" => Some(ErrorKind::BrokenPipe),
+        _ => None,
     }
 }
 

@@ -43,38 +43,43 @@ impl Alloc for Host<'_> {
     }
 }
 
+impl Host<'_> {
+    // Keeps what is written to standard output, unless that fails.
+    fn printed<D: Display + Drop>(&self, value: D) -> io::Result<()> {
+        match self.failure {
+            Some(kind) => Err(io::Error::from(kind)),
+            None => kept(&self.printed, value),
+        }
+    }
+}
+
+// Keeps what is written to a stream.
+fn kept<D: Display + Drop>(stream: &RefCell<String>, value: D) -> io::Result<()> {
+    write!(stream.try_borrow_mut()?, "{value}")?;
+    Ok(())
+}
+
 impl Print for Host<'_> {
     fn print<D: Display + Drop>(&self, value: D) -> io::Result<()> {
-        let text = format!(in self.alloc; "{value}")?;
-        self.write_all(text.as_bytes())
+        self.printed(value)
     }
 
     fn println<D: Display + Drop>(&self, value: D) -> io::Result<()> {
-        let text = format!(in self.alloc; "{value}\n")?;
-        self.write_all(text.as_bytes())
+        self.printed(format_args!("{value}\n"))
     }
 
     fn write_all(&self, bytes: &[u8]) -> io::Result<()> {
-        if let Some(kind) = self.failure {
-            return Err(io::Error::from(kind));
-        }
-        let text = String::from_utf8_lossy(self.alloc, bytes)?;
-        self.printed.try_borrow_mut()?.push_str(text.as_str())?;
-        Ok(())
+        self.printed(String::from_utf8_lossy(self.alloc, bytes)?)
     }
 }
 
 impl Eprint for Host<'_> {
     fn eprint<D: Display + Drop>(&self, value: D) -> io::Result<()> {
-        let text = format!(in self.alloc; "{value}")?;
-        self.said.try_borrow_mut()?.push_str(text.as_str())?;
-        Ok(())
+        kept(&self.said, value)
     }
 
     fn eprintln<D: Display + Drop>(&self, value: D) -> io::Result<()> {
-        let text = format!(in self.alloc; "{value}\n")?;
-        self.said.try_borrow_mut()?.push_str(text.as_str())?;
-        Ok(())
+        kept(&self.said, format_args!("{value}\n"))
     }
 }
 

@@ -31,6 +31,16 @@ impl Part<'_> {
             Part::Said(text) => left.said.starts_with(text),
         }
     }
+
+    // Tells that it is otherwise.
+    fn fault_of(&self, alloc: Global, left: &Left) -> Option<String> {
+        let (what, text, all) = match self {
+            Part::Printed(text) => ("is not printed", text, &left.printed),
+            Part::NotPrinted(text) => ("is printed", text, &left.printed),
+            Part::Said(text) => ("is not how it begins what it says", text, &left.said),
+        };
+        told(alloc, format!(in alloc; "{text:?} {what}: {all:?}"))
+    }
 }
 
 /// What a program has to leave.
@@ -54,58 +64,61 @@ impl Wanted<'_> {
     }
 
     /// The status 0, and this on standard output.
-    pub fn printed(alloc: Global, text: &str) -> Result<Self, AllocError> {
-        Ok(Wanted {
-            printed: String::from_str(alloc, text)?,
+    pub fn printed(alloc: Global, printed: String) -> Self {
+        Wanted {
+            printed,
             ..Wanted::nothing(alloc)
-        })
+        }
     }
 
     /// What does not hold of what is left, if anything.
-    pub fn fault_of(&self, alloc: Global, left: &Left) -> Result<Option<String>, AllocError> {
+    pub fn fault_of(&self, alloc: Global, left: &Left) -> Option<String> {
         if left.status != ExitCode::from(self.status) {
             let (wanted, came, said) = (self.status, left.status, &left.said);
-            return Ok(Some(format!(in alloc; "wanted status {wanted}, came {came:?} {said:?}")?));
+            let fault = format!(in alloc; "wanted status {wanted}, came {came:?} {said:?}");
+            return told(alloc, fault);
         }
         let (mut is_printed_whole, mut is_said_whole) = (true, true);
         for part in &self.parts {
             if !part.holds(left) {
-                return told_part(alloc, *part, left);
+                return part.fault_of(alloc, left);
             }
             match part {
                 Part::Said(_) => is_said_whole = false,
                 _ => is_printed_whole = false,
             }
         }
-        if (is_printed_whole || !self.printed.is_empty()) && self.printed != left.printed {
-            return told(
-                alloc,
-                "printed",
-                self.printed.as_str(),
-                left.printed.as_str(),
-            );
-        }
-        if is_said_whole && self.said != left.said {
-            return told(alloc, "said", self.said.as_str(), left.said.as_str());
-        }
-        Ok(None)
+        is_printed_whole |= !self.printed.is_empty();
+        difference(
+            alloc,
+            "printed",
+            is_printed_whole,
+            &self.printed,
+            &left.printed,
+        )
+        .or(difference(alloc, "said", is_said_whole, &self.said, &left.said))
     }
 }
 
-// Tells that a part is otherwise.
-fn told_part(alloc: Global, part: Part<'_>, left: &Left) -> Result<Option<String>, AllocError> {
-    let (what, text, all) = match part {
-        Part::Printed(text) => ("is not printed", text, &left.printed),
-        Part::NotPrinted(text) => ("is printed", text, &left.printed),
-        Part::Said(text) => ("is not how it begins what it says", text, &left.said),
-    };
-    Ok(Some(format!(in alloc; "{text:?} {what}: {all:?}")?))
+// In which line what was written differs from what was wanted, if it is compared.
+fn difference(
+    alloc: Global,
+    what: &str,
+    is_compared: bool,
+    wanted: &str,
+    came: &str,
+) -> Option<String> {
+    if !is_compared {
+        return None;
+    }
+    let (number, wanted, came) = first_difference(wanted, came)?;
+    told(
+        alloc,
+        format!(in alloc; "{what}, line {number}: wanted {wanted:?}, came {came:?}"),
+    )
 }
 
-// Tells in which line what was written differs from what was wanted.
-fn told(alloc: Global, what: &str, wanted: &str, came: &str) -> Result<Option<String>, AllocError> {
-    let Some((number, wanted, came)) = first_difference(wanted, came) else {
-        return Ok(None);
-    };
-    Ok(Some(format!(in alloc; "{what}, line {number}: wanted {wanted:?}, came {came:?}")?))
+/// A fault with its text, or without one if memory for that was refused.
+pub fn told(alloc: Global, fault: Result<String, AllocError>) -> Option<String> {
+    Some(fault.unwrap_or(String::new(alloc)))
 }

@@ -31,8 +31,9 @@ mod left;
 mod schedule;
 mod text;
 
-use case::{BadCase, Case};
-use std::alloc::{AllocError, AllocGlobal};
+use case::Case;
+use left::told;
+use std::alloc::AllocGlobal;
 use std::fs::{self, Files};
 use std::io;
 use std::process::ExitCode;
@@ -56,19 +57,18 @@ const TEXTS: [&str; 14] = [
 ];
 
 // The fault of a case or a schedule, if it has one.
-fn fault_of<F: Files + AllocGlobal>(files: &F, part: &str) -> Result<Option<String>, AllocError> {
+fn fault_of<F: Files + AllocGlobal>(files: &F, part: &str) -> Option<String> {
     let alloc = files.alloc();
     let (head, lines) = part.split_once('\n').unwrap_or((part, ""));
     if !head.starts_with("# ") {
-        return Ok(Some(format!(in alloc; "it has no name")?));
+        return told(alloc, String::from_str(alloc, "it has no name"));
     }
     if !lines.starts_with("$ ") {
         return schedule::fault_of(files, lines);
     }
     match Case::read(alloc, lines) {
-        Ok(case) => case.fault_of(alloc, &case.run(files)),
-        Err(BadCase::Line(line)) => Ok(Some(format!(in alloc; "this can't be read: {line}")?)),
-        Err(BadCase::Memory) => Err(AllocError),
+        Ok(case) => case.wanted.fault_of(alloc, &case.run(files)),
+        Err(line) => told(alloc, format!(in alloc; "this can't be read: {line}")),
     }
 }
 
@@ -86,7 +86,7 @@ fn run_text<R: Print + Files + AllocGlobal>(rt: &R, name: &str) -> io::Result<bo
     let text = fs::read_to_string(rt, format!(in rt.alloc(); "{name}.txt")?)?;
     let (mut ran, mut failed) = (0u64, 0u64);
     for part in text.trim_end().split("\n\n") {
-        if let Some(fault) = fault_of(rt, part)? {
+        if let Some(fault) = fault_of(rt, part) {
             println!(rt; "FAILED {name} {}: {fault}", first_line(part))?;
             failed = failed.saturating_add(1);
         }
@@ -101,11 +101,12 @@ fn run_wrong<R: Print + Files + AllocGlobal>(rt: &R) -> io::Result<bool> {
     let text = fs::read_to_string(rt, "wrong.txt")?;
     let (mut ran, mut passed) = (0u64, 0u64);
     for part in text.trim_end().split("\n\n") {
-        let (head, fault) = (first_line(part), fault_of(rt, part)?);
-        if !fault
-            .as_ref()
-            .is_some_and(|fault| is_told(head, fault.as_str()))
-        {
+        let (head, fault) = (first_line(part), fault_of(rt, part));
+        let is_told = match &fault {
+            Some(fault) => is_told(head, fault.as_str()),
+            None => false,
+        };
+        if !is_told {
             println!(rt; "FAILED wrong {head}: {fault:?}")?;
             passed = passed.saturating_add(1);
         }

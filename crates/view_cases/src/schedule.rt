@@ -1,7 +1,7 @@
 //! A schedule: the lines of a script, and what each adds to the record.
 
 use crate::case::{Program, run_program};
-use crate::left::Wanted;
+use crate::left::{Wanted, told};
 use once_script::print::EntryLine;
 use once_view::play::{Moment, Watcher, play};
 use once_view::reading::read_script;
@@ -10,25 +10,25 @@ use std::fs::Files;
 
 /// The fault of a schedule, if it has one. Its lines are played one by one, and its script is replayed whole. What that
 /// prints is a run in which nobody is forgotten.
-pub fn fault_of<F: Files + AllocGlobal>(
-    files: &F,
-    lines: &str,
-) -> Result<Option<String>, AllocError> {
+pub fn fault_of<F: Files + AllocGlobal>(files: &F, lines: &str) -> Option<String> {
     let alloc = files.alloc();
-    let script = script_of(alloc, lines)?;
-    if let Some(fault) = played(alloc, lines, script.as_str())? {
-        return Ok(Some(fault));
+    let (Some(script), Some(record)) = (script_of(alloc, lines), record_of(alloc, lines)) else {
+        return told(alloc, Err(AllocError));
+    };
+    if let Some(fault) = played(alloc, lines, script.as_str()) {
+        return Some(fault);
     }
-    let record = record_of(alloc, lines)?;
+    let entries = record.lines().count().saturating_sub(1);
     let left = run_program(files, Program::Replay, &[], script.as_bytes());
-    if let Some(fault) = Wanted::printed(alloc, record.as_str())?.fault_of(alloc, &left)? {
-        return Ok(Some(fault));
+    if let Some(fault) = Wanted::printed(alloc, record).fault_of(alloc, &left) {
+        return Some(fault);
     }
     let full = run_program(files, Program::Replay, &["--full"], script.as_bytes());
     let left = run_program(files, Program::Judge, &[], full.printed.as_bytes());
-    let entries = record.lines().count().saturating_sub(1);
-    let run = format!(in alloc; "run, {entries} entries, nobody forgotten\n")?;
-    Wanted::printed(alloc, run.as_str())?.fault_of(alloc, &left)
+    match format!(in alloc; "run, {entries} entries, nobody forgotten\n") {
+        Ok(run) => Wanted::printed(alloc, run).fault_of(alloc, &left),
+        Err(error) => told(alloc, Err(error)),
+    }
 }
 
 // The line of the script, and what it adds.
@@ -37,45 +37,48 @@ fn parts_of(line: &str) -> (&str, &str) {
     (order.trim_end(), added.trim())
 }
 
-fn script_of(alloc: Global, lines: &str) -> Result<String, AllocError> {
+// The script. None if memory is refused.
+fn script_of(alloc: Global, lines: &str) -> Option<String> {
     let mut script = String::new(alloc);
     for line in lines.lines() {
-        let (order, _) = parts_of(line);
-        if !order.is_empty() {
-            script.push_str(order)?;
-            script.push_str("\n")?;
+        if !add_line(&mut script, parts_of(line).0) {
+            return None;
         }
     }
-    Ok(script)
+    Some(script)
 }
 
-// All that is added, an entry a line.
-fn record_of(alloc: Global, lines: &str) -> Result<String, AllocError> {
+// All that is added, an entry a line. None if memory is refused.
+fn record_of(alloc: Global, lines: &str) -> Option<String> {
     let mut record = String::new(alloc);
     for line in lines.lines() {
-        let (_, added) = parts_of(line);
-        if !added.is_empty() {
-            record.push_str(added.replace(alloc, ", ", "\n")?.as_str())?;
-            record.push_str("\n")?;
+        for entry in parts_of(line).1.split(", ") {
+            if !add_line(&mut record, entry) {
+                return None;
+            }
         }
     }
-    Ok(record)
+    Some(record)
+}
+
+// Adds a line that is not empty. The answer is whether there was memory.
+fn add_line(text: &mut String, line: &str) -> bool {
+    line.is_empty() || (text.push_str(line).is_ok() && text.push_str("\n").is_ok())
 }
 
 // The first fault that is seen while the lines are played.
-fn played(alloc: Global, lines: &str, script: &str) -> Result<Option<String>, AllocError> {
+fn played(alloc: Global, lines: &str, script: &str) -> Option<String> {
     let mut seen = Seen {
         alloc,
         lines,
         fault: None,
     };
-    let script = match read_script(alloc, script.as_bytes()) {
-        Ok(script) => script,
-        Err(fault) => return Ok(Some(format!(in alloc; "{fault}")?)),
-    };
-    match play(alloc, script, &mut seen) {
-        Ok(_) => Ok(seen.fault),
-        Err(_) => Err(AllocError),
+    match read_script(alloc, script.as_bytes()) {
+        Ok(script) => match play(alloc, script, &mut seen) {
+            Ok(_) => seen.fault,
+            Err(_) => told(alloc, Err(AllocError)),
+        },
+        Err(fault) => told(alloc, format!(in alloc; "{fault}")),
     }
 }
 
@@ -90,33 +93,45 @@ struct Seen<'t> {
 impl Watcher for Seen<'_> {
     fn see(&mut self, moment: Moment<'_>) -> Result<(), AllocError> {
         let (line, rest) = self.lines.split_once('\n').unwrap_or((self.lines, ""));
-        let (order, added) = parts_of(line);
         self.lines = rest;
-        let came = added_at(self.alloc, moment)?;
-        if self.fault.is_none() && came.as_str() != added {
-            self.fault = Some(format!(in self.alloc;
-                "{order:?}: wanted {added:?}, came {came:?}"
-            )?);
-        }
-        if self.fault.is_none() && !is_told(moment) {
-            self.fault = Some(format!(in self.alloc;
-                "{order:?}: it is told as passed over, or should be"
-            )?);
+        if self.fault.is_none() {
+            self.fault = fault_at(self.alloc, line, moment);
         }
         Ok(())
     }
 }
 
-// What a line adds to the record, with a comma between two entries.
-fn added_at(alloc: Global, moment: Moment<'_>) -> Result<String, AllocError> {
+// The fault of a line of a schedule, if it has one.
+fn fault_at(alloc: Global, line: &str, moment: Moment<'_>) -> Option<String> {
+    let (order, added) = parts_of(line);
+    let Some(came) = added_at(alloc, moment) else {
+        return told(alloc, Err(AllocError));
+    };
+    if came.as_str() != added {
+        return told(
+            alloc,
+            format!(in alloc; "{order:?}: wanted {added:?}, came {came:?}"),
+        );
+    }
+    if !is_told(moment) {
+        return told(
+            alloc,
+            format!(in alloc; "{order:?}: it is told as passed over, or should be"),
+        );
+    }
+    None
+}
+
+// What a line adds to the record, with a comma between two entries. None if memory is refused.
+fn added_at(alloc: Global, moment: Moment<'_>) -> Option<String> {
     let mut text = String::new(alloc);
     for entry in moment.added {
-        if !text.is_empty() {
-            text.push_str(", ")?;
+        let gap = if text.is_empty() { "" } else { ", " };
+        if write!(text, "{gap}{}", EntryLine(entry)).is_err() {
+            return None;
         }
-        text.push_str(format!(in alloc; "{}", EntryLine(entry))?.as_str())?;
     }
-    Ok(text)
+    Some(text)
 }
 
 // Whether a line that adds something is not told as passed over, and one that adds nothing is. Steps may add nothing,

@@ -1,28 +1,34 @@
-//! The texts that stand in lines of cases.
+//! The texts that stand in lines of cases. There is none of a line in another form, and none if memory is refused.
 
-use std::alloc::{AllocError, Global};
+use std::alloc::Global;
 
 /// A text in which each `/` ends a line.
-pub fn with_lines(alloc: Global, text: &str) -> Result<String, AllocError> {
-    text.replace(alloc, '/', "\n")
+pub fn with_lines(alloc: Global, text: &str) -> Option<String> {
+    text.replace(alloc, '/', "\n").ok()
 }
 
-/// The text of `FIRST LAST TEXT`, once for each number of these. None if there are no such numbers.
-pub fn counted(alloc: Global, rest: &str) -> Result<Option<String>, AllocError> {
-    let Some((first, last, text)) = numbers_in(rest) else {
-        return Ok(None);
-    };
-    let text = with_lines(alloc, text)?;
-    if !text.contains('#') {
-        let times = last.saturating_sub(first).saturating_add(1);
-        return Ok(Some(text.as_str().repeat(alloc, times)?));
-    }
-    let mut all = String::new(alloc);
+/// The text of `FIRST LAST TEXT`, once for each number of these.
+pub fn counted(alloc: Global, rest: &str) -> Option<String> {
+    let (first, last, text) = numbers_in(rest)?;
+    let (text, mut all) = (with_lines(alloc, text)?, String::new(alloc));
     for number in first..=last {
-        let word = format!(in alloc; "{number}")?;
-        all.push_str(text.replace(alloc, '#', word.as_str())?.as_str())?;
+        if !add_copy(&mut all, text.as_str(), number) {
+            return None;
+        }
     }
-    Ok(Some(all))
+    Some(all)
+}
+
+// Adds a text in which `#` stands for this number. The answer is whether there was memory.
+fn add_copy(all: &mut String, text: &str, number: usize) -> bool {
+    let mut is_added = true;
+    for (place, part) in text.split('#').enumerate() {
+        if place > 0 {
+            is_added &= write!(all, "{number}").is_ok();
+        }
+        is_added &= all.push_str(part).is_ok();
+    }
+    is_added
 }
 
 fn numbers_in(rest: &str) -> Option<(usize, usize, &str)> {
@@ -34,16 +40,9 @@ fn numbers_in(rest: &str) -> Option<(usize, usize, &str)> {
     }
 }
 
-/// The bytes that stand here by their hexadecimal digits. None if there is another word.
-pub fn bytes_in(alloc: Global, rest: &str) -> Result<Option<Vec<u8>>, AllocError> {
-    let mut bytes = Vec::new(alloc);
-    for word in rest.split(' ') {
-        match u8::from_str_radix(word, 16) {
-            Ok(byte) => bytes.push(byte)?,
-            Err(_) => return Ok(None),
-        }
-    }
-    Ok(Some(bytes))
+/// The byte of two hexadecimal digits.
+pub fn byte_of(word: &str) -> Option<u8> {
+    u8::from_str_radix(word, 16).ok()
 }
 
 /// The first line in which two texts differ, with its number; of a text that has ended before, there is none.
