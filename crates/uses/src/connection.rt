@@ -1,10 +1,10 @@
 //! A connection that is tried again after an error, until it is there.
-ghost use Rattle.std.specs.Prelude.{◌≡◌, Some, Err, IfErr, IfOk};
+ghost use Rattle.std.specs.Prelude.{◌≡◌, Err, IfErr};
 ghost use Rattle.async_once_cell.specs.Refused.{own_error};
 
 use crate::fault::Fault;
 use async_once_cell::OnceCell;
-use async_once_cell::once::{InitError, Known};
+use async_once_cell::once::InitError;
 use futures::Future;
 use futures::task::{Context, Poll};
 use std::alloc::AllocGlobal;
@@ -62,26 +62,22 @@ where
     is_down(cell.get_or_try_init(rt, Dial { tries }).wait()?)
 }
 
-/// The connection, after at most so many tries. It is the one that the token knows, for good.
-fn connect<'a, R>(
-    rt: &'a R,
-    cell: &'a OnceCell<Connection>,
-    tries: &'a Cell<u64>,
-    token: &mut Known<'a, Connection>,
+/// The connection, after at most so many tries.
+fn connect<R>(
+    rt: &R,
+    cell: &OnceCell<Connection>,
+    tries: &Cell<u64>,
     most: u64,
 ) -> Result<Connection, Fault>
 where
     R: Wait + RandomSource + AllocGlobal,
-    requires { token.old.cell ≡ cell.now }
-    ensures cell { token.new.cell ≡ token.old.cell }
-    ensures value { IfOk result (λ connection. token.new.value ≡ Some connection) }
 {
     for _ in 0..most {
         if !try_once(rt, cell, tries)? {
             break;
         }
     }
-    cell.get_as(token).copied().ok_or(Fault::Tries(most))
+    cell.get().copied().ok_or(Fault::Tries(most))
 }
 
 /// What a caller is told that tries too few times, and what two are told that try often enough.
@@ -90,8 +86,8 @@ where
     R: Wait + RandomSource + AllocGlobal,
 {
     let (cell, tries) = (OnceCell::new(), Cell::new(0));
-    let first = connect(rt, &cell, &tries, &mut cell.token(), 2);
-    let second = connect(rt, &cell, &tries, &mut cell.token(), 4);
-    let third = connect(rt, &cell, &tries, &mut cell.token(), 4);
+    let first = connect(rt, &cell, &tries, 2);
+    let second = connect(rt, &cell, &tries, 4);
+    let third = connect(rt, &cell, &tries, 4);
     [first, second, third]
 }

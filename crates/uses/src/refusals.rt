@@ -77,19 +77,19 @@ fn one_runs<T>(token: &Known<'_, T>)
     one_task_holds();
 }
 
-/// Looks at a new cell, asks it, and looks again.
-fn asked<R>(rt: &R, cx: &mut Context<'_>) -> [Option<u64>; 3]
+/// Looks at a new cell, asks it, and looks again. Then why a poll of another cell is refused, if it is.
+fn asked<R>(rt: &R, cx: &mut Context<'_>) -> ([Option<u64>; 3], Option<Refused>)
 where
     R: Wait + AllocGlobal,
 {
-    let cell = OnceCell::new();
+    let (cell, other) = (OnceCell::new(), OnceCell::new());
     let mut token = cell.token();
     let before = looked(&cell, &mut token);
-    let mut future = cell.get_or_init(rt, ready(7));
-    let told = polled(&mut future, cx);
+    let told = polled(&mut cell.get_or_init(rt, ready(7)), cx);
     let after = looked(&cell, &mut token);
     one_runs(&token);
-    [before, told, after]
+    let refusal = refusal_of(&mut other.get_or_init(rt, ready(8)), cx);
+    ([before, told, after], refusal)
 }
 
 /// What is told of a new cell, and why a poll of another is refused, if it is.
@@ -97,8 +97,5 @@ pub fn ask<R>(rt: &R) -> Result<([Option<u64>; 3], Option<Refused>), Fault>
 where
     R: Wait + RandomSource + AllocGlobal,
 {
-    let (task, cell) = (MockTask::new(rt)?, OnceCell::new());
-    let seen = task.enter(|cx| asked(rt, cx));
-    let refusal = task.enter(|cx| refusal_of(&mut cell.get_or_init(rt, ready(8)), cx));
-    Ok((seen, refusal))
+    Ok(MockTask::new(rt)?.enter(|cx| asked(rt, cx)))
 }
