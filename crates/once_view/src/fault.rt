@@ -36,14 +36,22 @@ pub struct UnreadableLine {
     pub expected: Expected,
 }
 
+impl UnreadableLine {
+    /// Writes how much of the line is told, if not all of it.
+    fn write_cut<W: fmt::Write>(&self, f: &mut fmt::Formatter<W>) -> fmt::Result {
+        let told = self.text.chars().count();
+        if told >= self.length {
+            return Ok(());
+        }
+        let counts = [told as u64, self.length as u64];
+        write_filled(f, " (cut after {} of {} characters)", &counts)
+    }
+}
+
 impl fmt::Display for UnreadableLine {
     fn fmt<W: fmt::Write>(&self, f: &mut fmt::Formatter<W>) -> fmt::Result {
         write!(f, "line {} can't be read: {:?}", self.number, self.text)?;
-        let told = self.text.chars().count();
-        if told < self.length {
-            let counts = [told as u64, self.length as u64];
-            write_filled(f, " (cut after {} of {} characters)", &counts)?;
-        }
+        self.write_cut(f)?;
         write!(f, "; expected: {}", self.expected)
     }
 }

@@ -442,13 +442,20 @@ impl<'a> State<'a> {
 
     // Has the judge take an entry. Tells why it may not come here, if it may not.
     fn take(&mut self, entry: Entry) -> Result<Option<Reason>, AllocError> {
-        let Some(judge) = self.judge.take() else {
-            return Err(AllocError);
-        };
-        let (judge, refused) = judge.take(entry)?;
+        match self.judge.take() {
+            Some(judge) => {
+                let (judge, refused) = judge.take(entry)?;
+                self.go_on_with(judge);
+                Ok(refused)
+            }
+            None => Err(AllocError),
+        }
+    }
+
+    // This judge is back from an entry.
+    fn go_on_with(&mut self, judge: Judge) {
         self.is_dead = self.search.is_strict && judge.forgotten().is_some();
         self.judge = Some(judge);
-        Ok(refused)
     }
 
     // Whether this event tells that a task was woken, and it was not.
