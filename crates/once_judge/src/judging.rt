@@ -9,7 +9,7 @@ use crate::task::{Cell, Status, Task};
 use once_machine::record::{Entry, Kind, Ran};
 use std::alloc::{AllocError, Global};
 
-/// A judge of entries that come one by one: what it took is a run.
+/// A judge of entries that come one by one.
 #[derive(Drop)]
 pub struct Judge {
     seen: Seen,

@@ -17,6 +17,7 @@ pub mod Wakers
 pub mod Refusals
 pub mod Crowd
 pub mod Freed
+pub mod Fills
 pub mod Run
 pub mod Called
 pub mod Values

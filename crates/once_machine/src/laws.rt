@@ -1,11 +1,13 @@
 //! Laws of every run of a cell, for those who build on it. These functions do nothing: the contract of each is a law
-//! that follows from "the record is a run" alone, which `replay` ensures. In them the newest entry stands first.
+//! that follows from "the record is a run", which `replay` ensures, and all but `somebody_goes_on` from that alone. In
+//! them the newest entry stands first.
 ghost use Rattle.std.specs.Prelude.{◌≡◌, ◌≢◌, ◌≤◌, ◌⊎◌, ℕ, true, false, List, [], ◌∷◌, Some, None, length};
-ghost use Rattle.once_machine.specs.Prelude.{Answer, RanError, Kind, Reply, Value, Error, Memory, Full, Entry, Claim};
-ghost use Rattle.once_machine.specs.Prelude.{Ran, Free, Pass, End, DropEnd, is_own, Empty, Held, SetTo, cell};
-ghost use Rattle.once_machine.specs.Prelude.{answers_left, Dropping, Holding, Gone, status, is_under_way, last_call};
-ghost use Rattle.once_machine.specs.Prelude.{IsDue, IsOpen, times_opened, times_handed, Since, OtherActs, AreWaiting};
-ghost use Rattle.once_machine.specs.Prelude.{HasFreed, AtEvery, IsRun, NobodyForgotten};
+ghost use Rattle.once_machine.specs.Prelude.{Answer, RanError, RanPending, Kind, Reply, Value, Error, Memory, Full};
+ghost use Rattle.once_machine.specs.Prelude.{Pending, Entry, Claim, Ran, Free, Pass, End, DropEnd, is_own, Empty};
+ghost use Rattle.once_machine.specs.Prelude.{Held, SetTo, cell, answers_left, Dropping, Holding, Gone, Waiting, status};
+ghost use Rattle.once_machine.specs.Prelude.{is_under_way, last_call, IsDue, IsOpen, times_opened, times_handed, Since};
+ghost use Rattle.once_machine.specs.Prelude.{OtherActs, OtherHolds, AreWaiting, HasFreed, AtEvery, IsRun};
+ghost use Rattle.once_machine.specs.Prelude.{NobodyForgotten, SomebodyCalled, CanGoOn, times_filled, times_given};
 
 /// At most one task holds the right, whether it rests or is in a call. A task that claims finds the
 /// cell empty, and an init is polled by the task that holds.
@@ -21,12 +23,24 @@ pub fn one_task_holds()
         → IsRun kind limit (Ran t a ∷ h) → cell kind h ≡ Held t }
 {}
 
+/// Until the owner replaces the cell, it is filled once at most, and an init gives a value once at most.
+pub fn filled_once()
+    ensures filled { (kind : Kind) (limit : ℕ) (h : List Entry) → IsRun kind limit h → times_filled h ≤ 1 }
+    ensures given { (kind : Kind) (limit : ℕ) (h : List Entry) → IsRun kind limit h → times_given h ≤ 1 }
+{}
+
 /// A poll that ends with a value answers the one that is set, which lasts until the owner changes it.
 pub fn value_set_is_answered()
     ensures answered { (kind : Kind) (limit t v : ℕ) (h : List Entry)
         → IsRun kind limit (End t (Value v) ∷ h) → cell kind h ≡ SetTo v }
     ensures lasts { (kind : Kind) (limit : ℕ) (e : Entry) (h : List Entry) (v : ℕ)
         → IsRun kind limit (e ∷ h) → is_own e ≡ false → cell kind h ≡ SetTo v → cell kind (e ∷ h) ≡ SetTo v }
+{}
+
+/// A poll ends Pending only if another task holds then, or if its own init was polled in it and is pending.
+pub fn pending_has_a_reason()
+    ensures { (kind : Kind) (limit t : ℕ) (h : List Entry) → IsRun kind limit (End t Pending ∷ h)
+        → OtherHolds kind t h ⊎ ((last_call kind t h).ran ≡ Some RanPending) }
 {}
 
 /// A poll that ends with an error ends with the one that its own init gave, after it gave the right
@@ -68,6 +82,14 @@ pub fn refusals_need_others()
 /// While the value is set no waiter is forgotten: the waker of each was handed out since its last poll ended.
 pub fn set_value_calls_all()
     ensures { (kind : Kind) (limit : ℕ) (h : List Entry) → IsRun kind limit h → AtEvery (NobodyForgotten kind) h }
+{}
+
+/// Nobody waits in vain: whenever a task waits, there is one that can go on. It is in a poll or a drop, or it rests
+/// with the right, or it waits and was woken. This asks, beside a run, that some task was woken if the cell is empty,
+/// which `replay` and each cell that threads share promise too.
+pub fn somebody_goes_on()
+    ensures { (kind : Kind) (limit u : ℕ) (h : List Entry) → IsRun kind limit h → SomebodyCalled kind h
+        → status kind u h ≡ Waiting → (t : ℕ) × CanGoOn kind t h }
 {}
 
 /// A release without a value hands out one waker at most, and not those of all waiters. If some task waits and was not

@@ -38,7 +38,7 @@ abbrev SetSo : Kind → ℕ → List Entry → Type 0
 SetSo K t h = status K t h ≡ Polling → (last_call K t h).set_then ≡ true → SetPoll K t h
 
 -- a poll that ended is over
-pending_polls : (u : ℕ) (c : Cell) → pending_status u c ≡ Polling → ⊥
+pub pending_polls : (u : ℕ) (c : Cell) → pending_status u c ≡ Polling → ⊥
 pending_polls u (Held k) e = grind (arith, nat_tests)
 pending_polls u _ e = grind arith
 

@@ -29,7 +29,7 @@ listed_by K t e h true is ih s = rw is (listed_own K t e h ih (rw is at s))
 listed_by K t e h false is ih s = rw is (ih (rw is at s))
 
 -- of a task that waits, the last poll is the last that ended Pending
-waiting_listed : (K : Kind) (t : ℕ) (h : List Entry) → status K t h ≡ Waiting → IsListed (last_call K t h)
+pub waiting_listed : (K : Kind) (t : ℕ) (h : List Entry) → status K t h ≡ Waiting → IsListed (last_call K t h)
 waiting_listed K t [] s = refl
 waiting_listed K t (e ∷ h) s = listed_by K t e h (is_of t e) refl (waiting_listed K t h) s
 
@@ -42,7 +42,7 @@ idle_called : (K : Kind) (h : List Entry) → SomebodyCalled K h → WaiterCalle
 idle_called K h called idle empty u s =
     let c = called empty u s in
     let w = idle_waits K c.0 h (idle c.0) c.1 in
-    (c.0, w, subst (λ k. member k (handed_since c.0 h) ≡ true) (waiting_listed K c.0 h w) c.1.1)
+    (c.0, (w, subst (λ k. member k (handed_since c.0 h) ≡ true) (waiting_listed K c.0 h w) c.1.1))
 
 -- at every moment
 pub waiter_called : (K : Kind) (h : List Entry) → AtEvery (SomebodyCalled K) h → AtEvery (WaiterCalled K) h

@@ -6,7 +6,7 @@ use Rattle.once_machine.specs.Record.{Begin, Claim, DropBegin, DropEnd, End, Ent
 use Rattle.once_machine.specs.Tasks.{Gone, Unmade, Waiting, is_under_way, last_call, status}
 use Rattle.once_machine.specs.Wakers.{CallsOne, IsOpen, handed_since}
 use Rattle.once_machine.specs.Run.{AtEvery, IsRun}
-use Rattle.once_machine.specs.Called.{IsCalled, SomebodyCalled, WaiterCalled}
+use Rattle.once_machine.specs.Called.{IsCalled, SomebodyCalled, WaiterCalled, WaitsWoken}
 use Rattle.once_machine.specs.Inputs.{Go, Input, Make, Poll}
 use Rattle.once_machine.proofs.Input.Headline.{every_run}
 use Rattle.once_machine.proofs.History.Cells.{held_not_empty}
@@ -53,8 +53,12 @@ lost_waits_uncalled = by_three (λ t. (status Once t lost ≡ Waiting) × (membe
     (λ k. let e = k.0 in let z : ⊥ = cc in z) (λ k. let e = k.0 in let z : ⊥ = cc in z) (λ k. false≢true k.1)
     (λ t a b c k. not_waiting Once t lost Unmade (rw (a, b, c) refl) refl k.0)
 
+-- the two facts of a task that was woken, of any history, so that none is computed
+woken_facts : (t : ℕ) (h : List Entry) → WaitsWoken Once t h → (status Once t h ≡ Waiting) × (member (last_call Once t h).waker (handed_since t h) ≡ true)
+woken_facts t h w = w
+
 lost_waiter : WaiterCalled Once lost → ⊥
-lost_waiter p = let c = p lost_idle refl 3 refl in lost_waits_uncalled c.0 (c.1, c.2)
+lost_waiter p = let c = p lost_idle refl 3 refl in lost_waits_uncalled c.0 (woken_facts c.0 lost c.1)
 
 -- the woken task is refused memory, and nobody else is woken
 abbrev lost_for_memory : List Entry

@@ -1,25 +1,30 @@
 -- The laws of every run hold of the log: each clause of src/laws.rt, of the log as it was when an entry came to it.
 use Rattle.std.proofs.Common.{◌≡◌, ◌≢◌, ◌≤◌, ◌<◌, ◌⊎◌, ℕ, Bool, true, false, List, [], ◌∷◌, ◌++◌, length, reverse, Some, None, sym, ◌∙◌, subst, refl}
 use Rattle.std.proofs.lemmas.List.{reverse-append, append_assoc}
-use Rattle.once_machine.specs.Record.{Answer, Claim, DropEnd, End, Entry, Error, Free, Full, Memory, Once, Pass, Ran, RanError, Reply, Value, is_own}
+use Rattle.once_machine.specs.Record.{Answer, Claim, DropEnd, End, Entry, Error, Free, Full, Memory, Once, Pass, Pending, Ran, RanError, RanPending, Reply, Value, is_own}
 use Rattle.once_machine.specs.Cell.{Empty, Held, SetTo, answers_left, cell}
-use Rattle.once_machine.specs.Tasks.{Dropping, Gone, Holding, is_under_way, last_call, status}
+use Rattle.once_machine.specs.Tasks.{Dropping, Gone, Holding, Waiting, is_under_way, last_call, status}
 use Rattle.once_machine.specs.Wakers.{IsDue, IsOpen, times_handed, times_opened}
-use Rattle.once_machine.specs.Refusals.{OtherActs, Since}
+use Rattle.once_machine.specs.Refusals.{OtherActs, OtherHolds, Since}
 use Rattle.once_machine.specs.Crowd.{AreWaiting}
 use Rattle.once_machine.specs.Freed.{HasFreed}
+use Rattle.once_machine.specs.Fills.{times_filled, times_given}
+use Rattle.once_machine.specs.Called.{CanGoOn, SomebodyCalled}
 use Rattle.once_machine.specs.Run.{AtEvery, IsRun, NobodyForgotten}
 use Rattle.once_machine.specs.Book.{IsBook, Page}
 use Rattle.once_machine.proofs.History.Cells.{same_holder}
 use Rattle.once_machine.proofs.Law.Crowded.{full_waits, memory_met, value_set}
 use Rattle.once_machine.proofs.Law.Answered.{set_answered}
 use Rattle.once_machine.proofs.Law.Freed.{error_empties}
+use Rattle.once_machine.proofs.Law.Filled.{filled_once}
+use Rattle.once_machine.proofs.Law.Given.{given_once}
+use Rattle.once_machine.proofs.Law.GoesOn.{at_the_newest, goes_on, pending_reason}
 use Rattle.once_machine.proofs.Law.Nobody.{nobody_forgotten}
 use Rattle.once_machine.proofs.Law.Passed.{at_most_one, one_called, passed_once, passed_refused, passed_to_one, passed_unclaimed, passer_gone}
 use Rattle.once_machine.proofs.Law.Rights.{dropped_holder, holding_holds, one_holder, own_error, runner_holds, value_lasts}
 use Rattle.once_machine.proofs.Law.Wakes.{handed_within}
-use Rattle.once_machine.proofs.Told.Beginnings.{run_of_beginning}
-use Rattle.once_machine.proofs.Told.Log.{log_is_run}
+use Rattle.once_machine.proofs.Told.Beginnings.{every_of_beginning, run_of_beginning}
+use Rattle.once_machine.proofs.Told.Log.{log_is_run, somebody_called}
 
 module _ (limit n put : ℕ) (slot : Bool) (pages : List Page) (log : List Entry) (some : 0 < limit) (book : IsBook limit n put slot pages log) (seen late : List Entry) where
   -- what was seen, the newest entry first
@@ -56,6 +61,14 @@ module _ (limit n put : ℕ) (slot : Bool) (pages : List Page) (log : List Entry
   pub one_task_holds_runner : (t : ℕ) (a : Answer) → log ≡ seen ++ Ran t a ∷ late → cell Once h ≡ Held t
   one_task_holds_runner t a is = runner_holds Once limit t a h (next_run (Ran t a) is)
 
+  -- the cell is filled once at most
+  pub filled_once_filled : log ≡ seen ++ late → times_filled h ≤ 1
+  filled_once_filled is = filled_once Once limit h (seen_run is)
+
+  -- and once at most an init gives a value
+  pub filled_once_given : log ≡ seen ++ late → times_given h ≤ 1
+  filled_once_given is = given_once Once limit h (seen_run is)
+
   -- a poll that ends with a value answers the one that is set
   pub value_set_is_answered_answered : (t v : ℕ) → log ≡ seen ++ End t (Value v) ∷ late → cell Once h ≡ SetTo v
   value_set_is_answered_answered t v is = value_set Once limit t v h (next_run (End t (Value v)) is)
@@ -63,6 +76,10 @@ module _ (limit n put : ℕ) (slot : Bool) (pages : List Page) (log : List Entry
   -- and that one lasts
   pub value_set_is_answered_lasts : (e : Entry) (v : ℕ) → log ≡ seen ++ e ∷ late → is_own e ≡ false → cell Once h ≡ SetTo v → cell Once (e ∷ h) ≡ SetTo v
   value_set_is_answered_lasts e v is = value_lasts Once limit e h v (next_run e is)
+
+  -- a poll ends Pending because another task holds, or because its own init is
+  pub pending_has_a_reason : (t : ℕ) → log ≡ seen ++ End t Pending ∷ late → OtherHolds Once t h ⊎ ((last_call Once t h).ran ≡ Some RanPending)
+  pending_has_a_reason t is = pending_reason Once limit t h (next_run (End t Pending) is)
 
   -- an error is that of the own init, after the right was given back
   pub error_is_ones_own_own : (t e : ℕ) → log ≡ seen ++ End t (Error e) ∷ late → ((last_call Once t h).ran ≡ Some (RanError e)) × ((last_call Once t h).freed ≡ true)
@@ -97,6 +114,12 @@ module _ (limit n put : ℕ) (slot : Bool) (pages : List Page) (log : List Entry
   -- a poll that met no other task and ended as full found at least limit others waiting
   pub refusals_need_others_full : (t : ℕ) → log ≡ seen ++ End t Full ∷ late → (Since t (OtherActs Once t) h → ⊥) → Since t (AreWaiting Once limit t) h
   refusals_need_others_full t is = full_waits Once limit t h (next_run (End t Full) is)
+
+  -- whenever a task waits, one can go on
+  pub somebody_goes_on : (u : ℕ) → log ≡ seen ++ late → status Once u h ≡ Waiting → (t : ℕ) × CanGoOn Once t h
+  somebody_goes_on u is s =
+      let called = every_of_beginning (SomebodyCalled Once) seen late (subst (λ l. AtEvery (SomebodyCalled Once) (reverse l)) is (somebody_called limit n put slot pages log some book)) in
+      goes_on Once limit u h (seen_run is) (at_the_newest (SomebodyCalled Once) h called) s
 
   -- a release without a value hands out one waker at most
   pub failed_release_calls_one_at_most_one : (t : ℕ) (X : List ℕ) → log ≡ seen ++ Free t X ∷ late → length X ≤ 1
