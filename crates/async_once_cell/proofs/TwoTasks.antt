@@ -9,7 +9,7 @@ use Rattle.async_once_cell.specs.Inner.Own.{IsHand, number_in, task_in}
 use Rattle.async_once_cell.specs.Inner.TwoTasks.{AreTwo, HasLearned}
 
 -- the page has the entries of its task, so the log has none besides
-hand_on : (old log : List Entry) (t : ℕ) (x : TaskState) (ss : List Sheet) → ((k : ℕ) (s : Sheet) → slice_get ss k ≡ Some s → s.entries ≡ entries_on k log)
+pub hand_on : (old log : List Entry) (t : ℕ) (x : TaskState) (ss : List Sheet) → ((k : ℕ) (s : Sheet) → slice_get ss k ≡ Some s → s.entries ≡ entries_on k log)
     → slice_get ss (suc (suc t)) ≡ Some (sheet (entries_of t old) (At x)) → IsHand log (sheets old (hand t x))
 hand_on old log t x ss are there = ap (λ (es : List Entry). (suc (suc t), sheet es (At x)) ∷ []) (are (suc (suc t)) (sheet (entries_of t old) (At x)) there)
 

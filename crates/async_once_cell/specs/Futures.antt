@@ -53,6 +53,13 @@ module _ {T I R V : Type 0} where
   answer_of c (StateLeft r) = None
   answer_of c (StateShared w) = w.value
 
+  -- whether it answered a value that its own init gave
+  abbrev pub gave_of : FutureState T I R V → Bool
+  gave_of (StateOwned r init) = false
+  gave_of (StateAnswered r) = false
+  gave_of (StateLeft r) = false
+  gave_of (StateShared w) = w.gave
+
   -- what a clause sees of a future of this cell
   abbrev pub view_of_future : CellView T → FutureState T I R V → FutureView T I
   view_of_future c a = record {
@@ -62,6 +69,7 @@ module _ {T I R V : Type 0} where
     log = seen_of a;
     finished = is_done a;
     value = answer_of c a;
+    gave = gave_of a;
   }
 
 -- each value that the init of a future may give fits what is promised of the value of its cell

@@ -9,6 +9,7 @@ pub mod Desk
 pub mod Sections
 pub mod Hands
 pub mod TwoTasks
+pub mod Recalls
 pub mod Shares
 pub mod Parts
 pub mod Sides

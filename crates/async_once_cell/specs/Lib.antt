@@ -28,6 +28,7 @@ pub use Rattle.once_machine.specs.Wakers
 pub use Rattle.once_machine.specs.Refusals
 pub use Rattle.once_machine.specs.Crowd
 pub use Rattle.once_machine.specs.Freed
+pub use Rattle.once_machine.specs.Fills
 pub use Rattle.once_machine.specs.Run
 pub use Rattle.once_machine.specs.Called
 pub use Rattle.once_machine.specs.Values

@@ -1,7 +1,8 @@
 -- What a poll of a cell's future answers and leaves, in the record too.
 use Rattle.std.specs.Prelude.{◌≡◌, ℕ, ⊤, Bool, true, false, List, [], ◌∷◌, Option, Some, None, Result, Ok, Err}
-use Rattle.std.specs.Prelude.{IfOk, IfSome}
+use Rattle.std.specs.Prelude.{IfOk, IfSome, reverse}
 use Rattle.std.specs.Borrow.{Bor}
+use mathlib.Core.List.{IsPrefix}
 use Rattle.futures.specs.declared.task.Poll.{Poll}
 use Rattle.futures.specs.declared.task.Poll.TheVariants.{Ready, Pending}
 use Rattle.futures.specs.declared.task.context.Context.{Context}
@@ -10,13 +11,15 @@ use Rattle.async_once_cell.specs.declared.error.InitError.{InitError}
 use Rattle.async_once_cell.specs.declared.error.InitError.TheVariants.{Init, Memory, Full}
 use Rattle.async_once_cell.specs.declared.error.Refused.{Refused}
 use Rattle.async_once_cell.specs.declared.error.Refused.TheVariants.{Memory as NoMemory, Full as TooMany}
-use Rattle.once_machine.specs.Record.{Begin, DropBegin, DropEnd, Entry, Made}
+use Rattle.once_machine.specs.Record.{Begin, DropBegin, DropEnd, Entry, Made, Once}
+use Rattle.once_machine.specs.Run.{IsRun}
+use Rattle.once_machine.specs.Tasks.{Holding, status}
 use Rattle.once_machine.specs.declared.step.Ending.TheVariants.{Dropped as EndDropped, Error as EndError}
 use Rattle.once_machine.specs.declared.step.Ending.TheVariants.{Full as EndFull, Memory as EndMemory}
 use Rattle.once_machine.specs.declared.step.Ending.TheVariants.{Pending as EndPending, Value as EndValue}
 use Rattle.once_machine.specs.declared.step.Ending.{Ending}
 use Rattle.async_once_cell.specs.Inits.{MayGive}
-use Rattle.async_once_cell.specs.Kept.{Grew}
+use Rattle.async_once_cell.specs.Kept.{Grew, most}
 use Rattle.async_once_cell.specs.Record.{gave_value}
 use Rattle.async_once_cell.specs.Walks.{IsOneCall, Spans, end_of}
 use Rattle.async_once_cell.specs.Tokens.{Agrees, IsSetIn}
@@ -101,6 +104,33 @@ Answers (Owned x) (Ready (Ok v)) = v.now ≡ x
 Answers (Owned x) _ = ⊥
 Answers (Shared s) r = ⊤
 
+-- an answer's value is the owner's if the owner put one there, and there is no refusal; else it fits the promise
+abbrev pub AnswersFit : {T E : Type 0} → (List ℕ → T → Type 0) → CellView T → Result (Bor T) E → Type 0
+AnswersFit fits (Owned x) (Ok v) = v.now ≡ x
+AnswersFit fits (Owned x) (Err e) = ⊥
+AnswersFit fits (Shared s) (Ok v) = fits s.about v.now
+AnswersFit fits (Shared s) (Err e) = ⊤
+
+-- who has seen that the cell is set is answered a value
+abbrev pub AnswersLate : {T A E : Type 0} → CellView T → List Entry → Result A E → Type 0
+AnswersLate c log (Ok x) = ⊤
+AnswersLate c log (Err e) = IsSetIn c log → ⊥
+
+-- a poll of the task t was seen to begin after all that was seen before, and to end with this entry
+abbrev pub SawEnd : {T : Type 0} → CellView T → ℕ → Entry → List Entry → List Entry → Type 0
+SawEnd (Owned x) t e old new = ⊤
+SawEnd (Shared s) t e old new = (seen : List Entry) × Spans t e old seen × IsPrefix seen new
+
+-- in the record of a cell that tasks share the task t rests with the right
+abbrev pub IsHolderIn : {T : Type 0} → CellView T → ℕ → List Entry → Type 0
+IsHolderIn (Owned x) t log = ⊥
+IsHolderIn (Shared s) t log = status Once t (reverse log) ≡ Holding
+
+-- in some record that is a run a poll of the task t began, and it ended with this entry, which is the newest
+abbrev pub EndedInRun : {T : Type 0} → CellView T → ℕ → Entry → Type 0
+EndedInRun (Owned x) t e = ⊤
+EndedInRun (Shared s) t e = (old log : List Entry) × Spans t e old log × IsRun Once most (reverse log)
+
 -- the answer is a value
 abbrev pub IsValue : {A E : Type 0} → Poll (Result A E) → Type 0
 IsValue (Ready (Ok x)) = ⊤
@@ -115,11 +145,14 @@ abbrev pub value_of : {T E : Type 0} → Poll (Result (Bor T) E) → Option T
 value_of (Ready (Ok v)) = Some v.now
 value_of _ = None
 
--- if the task's own init gave a value in a poll, the value that is answered is one that this init might give
+-- of a future that answered a value, whether its own init gave that is told as by the record
+abbrev pub TellsGave : {T A E I : Type 0} → FutureView T I → Poll (Result A E) → Type 0
+TellsGave new r = IsValue r → new.gave ≡ gave_value new.task new.log
+
+-- if the future's own init gave the value that is answered, this is one that the init might give
 abbrev pub AnswersOwn : {T E I : Type 0} → (I → T → Type 0) → FutureView T I → FutureView T I
     → Poll (Result (Bor T) E) → Type 0
-AnswersOwn may_give old new r =
-    gave_value new.task new.log ≡ true → IfSome (value_of r) (MayGive may_give old.init)
+AnswersOwn may_give old new r = new.gave ≡ true → IfSome (value_of r) (MayGive may_give old.init)
 
 -- what a token knew before a poll and knows after it: if a value was answered, that, which is the known one if
 -- there was one; else nothing, as before

@@ -6,11 +6,13 @@ pub use Rattle.async_once_cell.specs.Kept.{Grew, entries_of, most}
 pub use Rattle.async_once_cell.specs.Listed.{WakesTask, whose}
 pub use Rattle.async_once_cell.specs.Polls.{IsValue, ending_by, is_over, value_of, ending_of_refusal, ending_of_error}
 pub use Rattle.async_once_cell.specs.Polls.{IsMade, Answers, DidPoll, HasLeft, IfValue, IsValueAtOnce, Polls, PollsAs}
-pub use Rattle.async_once_cell.specs.Polls.{SpansIn, Waits, AnswersOwn}
+pub use Rattle.async_once_cell.specs.Polls.{SpansIn, Waits, AnswersOwn, AnswersFit, AnswersLate, SawEnd}
+pub use Rattle.async_once_cell.specs.Polls.{EndedInRun, IsHolderIn, TellsGave}
 pub use Rattle.async_once_cell.specs.Record.{EndsSet, IsSet, gave_value, PollsOnce, WasFilled}
 pub use Rattle.async_once_cell.specs.Refused.{own_error, message, message_of, kind_of, error_of}
 pub use Rattle.async_once_cell.specs.Tokens.{Gives, IsSetIn, Learns, Lends, Looks, Agrees, LendsMut}
-pub use Rattle.async_once_cell.specs.Views.{IsAnswered, AttemptView, shown_in, value_in, Owned, about_of, is_shared}
+pub use Rattle.async_once_cell.specs.Views.{IsAnswered, AttemptView, gave_in, shown_in, value_in, Owned, about_of}
+pub use Rattle.async_once_cell.specs.Views.{is_shared}
 pub use Rattle.async_once_cell.specs.Views.{CellView, IsWritten, Settled, view_of, IsOf, known_of, log_of, FutureView}
 pub use Rattle.async_once_cell.specs.Views.{Shows, ToldView, TokenView}
 pub use Rattle.async_once_cell.specs.Walks.{IsOneCall, Spans, end_of}

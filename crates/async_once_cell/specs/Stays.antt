@@ -36,7 +36,7 @@ module _ {T E H X : Type 0} (may_fail : H → X → Type 0) (may_give : H → T 
     pub gives : GivesNoOther may_give s.first.value s.init
     pub value : IfSome s.value (MayGive may_give s.first.value)
     pub handed : IfSome s.handed.value (MayGive may_give s.first.value)
-    pub written : IfSome s.written (λ w. (s.slot.numbers ≡ w.0.of ∷ []) × MayGive may_give s.first.value w.0.value)
+    pub written : IfSome s.written (λ w. (s.slot.numbers ≡ w.of ∷ []) × MayGive may_give s.first.value w.value)
 
   -- the value that a side hands over is one that the init might give when the poll began, if the side is right
   abbrev pub Hands : PollSide T E H → T → Type 0

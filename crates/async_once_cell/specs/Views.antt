@@ -9,6 +9,7 @@ use Rattle.async_once_cell.specs.declared.once.Contents.{Contents}
 use Rattle.async_once_cell.specs.declared.once.Contents.TheVariants.{Owned as OwnedValue, Shared as SharedValue}
 use Rattle.async_once_cell.specs.declared.once.known.Seen.{Seen}
 use Rattle.async_once_cell.specs.declared.attempt.Shown.{Shown}
+use Rattle.async_once_cell.specs.declared.attempt.Shown.TheVariants.{Nothing, Own as ShownOwn, Other as ShownOther}
 use Rattle.async_once_cell.specs.declared.once.known.Seen.TheVariants.{Owned as SeenOwned, Shared as SeenShared}
 
 -- what a clause sees of a cell
@@ -30,6 +31,7 @@ pub record FutureView (T I : Type 0) : Type 0 where
   pub log : List Entry  -- the record as far as it was seen; a cell that has its owner's value has none
   pub finished : Bool  -- whether it is finished
   pub value : Option T  -- the value that it answered, if it answered one
+  pub gave : Bool  -- whether it answered a value that its own init gave
 
 -- what a clause sees of a task with its init
 pub record AttemptView (T I : Type 0) : Type 0 where
@@ -39,6 +41,7 @@ pub record AttemptView (T I : Type 0) : Type 0 where
   pub finished : Bool  -- whether it is finished
   pub init : Option I  -- its init, if it is there still
   pub value : Option T  -- the value that it answered, if it answered one
+  pub gave : Bool  -- whether it answered a value that its own init gave
 
 -- what a clause sees of what was told of a cell
 pub record ToldView (T : Type 0) : Type 0 where
@@ -71,9 +74,16 @@ value_in None = None
 value_in (Some w) = Some w.value
 
 -- what shows the value that a task answered
-abbrev pub shown_in : {T : Type 0} → Option (Shown T) → Option (Written T)
-shown_in None = None
-shown_in (Some s) = Some s.0
+abbrev pub shown_in : {T : Type 0} → Shown T → Option (Written T)
+shown_in Nothing = None
+shown_in (ShownOwn w _) = Some w
+shown_in (ShownOther w _) = Some w
+
+-- whether it is the value that its own init gave
+abbrev pub gave_in : {T : Type 0} → Shown T → Bool
+gave_in Nothing = false
+gave_in (ShownOwn w _) = true
+gave_in (ShownOther w _) = false
 
 -- if this shows a value, it is that of this cell. Its task is finished, and saw that the cell is set
 abbrev pub IsAnswered : {T : Type 0} → Placed → Bool → List Entry → Option (Written T) → Type 0

@@ -5,7 +5,8 @@ ghost use Rattle.async_once_cell.specs.Stays.{Hands, IsRenewed, Stays, leaving, 
 ghost use Rattle.async_once_cell.specs.Prelude.{GivesNoOther, InitFits, TellsOwn, MayGive, is_some, IfReady, IsArmed};
 ghost use Rattle.async_once_cell.specs.Prelude.{Keeps, Ending, Begin, DropBegin, DropEnd, Entry, Made, Grew, EndsSet};
 ghost use Rattle.async_once_cell.specs.Prelude.{IsSet, gave_value, IsOneCall, Spans, end_of, IsValue, ending_by};
-ghost use Rattle.async_once_cell.specs.Prelude.{is_over, value_of, IsAnswered, AttemptView, shown_in, value_in};
+ghost use Rattle.async_once_cell.specs.Prelude.{is_over, value_of, IsAnswered, AttemptView, gave_in, shown_in};
+ghost use Rattle.async_once_cell.specs.Prelude.{value_in};
 ghost use Rattle.async_once_cell.specs.Prelude.{HasCopied, HasWoken, sided_tells, WakesTask, whose};
 
 use crate::error::{Failure, Refused};
@@ -22,17 +23,23 @@ use std::marker::{Model, PhantomData};
 use std::snapshot::Snapshot;
 use std::sync::Wait;
 
-// What shows the value that a task answered. It is as wide as its neighbours: the bytes that a narrow field leaves
-// free would be copied one by one when a future is made.
+// What shows the value that a task answered, if it answered one. It is as wide as its neighbours: the bytes that a
+// narrow field leaves free would be copied one by one when a future is made.
 #[derive(Drop)]
-pub(crate) struct Shown<T>(pub(crate) Written<T>, pub(crate) [u64; 0]);
+pub(crate) enum Shown<T> {
+    Nothing,
+    // The value that its own init gave.
+    Own(Written<T>, [u64; 0]),
+    // A value that another task put.
+    Other(Written<T>, [u64; 0]),
+}
 
 /// One attempt to get the value of a cell: a task with its init. A clause sees both.
 #[derive(Drop)]
 pub(crate) struct Attempt<'a, T, I: Drop, R: Wait + AllocGlobal, V: Fits<T> = Anything> {
     pub(crate) task: Task<'a, 'a, T, ListedWaker, R, V>,
     init: Option<I>,
-    pub(crate) shown: Option<Shown<T>>,
+    pub(crate) shown: Shown<T>,
     // The init is there until the task is finished.
     ghost has_init: { task.finished ≡ false → is_some init ≡ true },
 }
@@ -47,6 +54,7 @@ impl<'a, T, I: Drop, R: Wait + AllocGlobal, V: Fits<T>> Model for Attempt<'a, T,
       finished = f.task.finished;
       init = f.init;
       value = value_in (shown_in f.shown);
+      gave = gave_in f.shown;
     } };
 
     // Only a finished task answered a value, and it saw that the cell is set.
@@ -65,7 +73,7 @@ impl<'a, T, I: Drop, R: Wait + AllocGlobal, V: Fits<T>> Attempt<'a, T, I, R, V> 
         Attempt {
             task: Task::new(inner, rt),
             init: Some(init),
-            shown: None,
+            shown: Shown::Nothing,
         }
     }
 
@@ -75,7 +83,17 @@ impl<'a, T, I: Drop, R: Wait + AllocGlobal, V: Fits<T>> Attempt<'a, T, I, R, V> 
         ensures of { IfSome result (λ w. w.of ≡ self.now.cell.id) }
         ensures set { is_some result ≡ true → IsSet self.now.log }
     {
-        Some(self.shown.as_ref()?.0.again())
+        match &self.shown {
+            Shown::Nothing => None,
+            Shown::Own(written, _) | Shown::Other(written, _) => Some(written.again()),
+        }
+    }
+
+    /// Whether the task answered a value that its own init gave.
+    pub(crate) fn gave(&self) -> bool
+        ensures { result ≡ self.now.gave }
+    {
+        matches!(self.shown, Shown::Own(_, _))
     }
 
     /// As [`leave`](Self::leave), by value: so the drop of a future that is finished moves nothing.
@@ -135,8 +153,8 @@ impl<'a, T: Drop, I: Drop, R: Wait + AllocGlobal, V: Fits<T>> Attempt<'a, T, I, 
         ensures own { IfReady result (TellsOwn I.may_fail X.ending self.old.init) }
         ensures same { GivesNoOther I.may_fail self.old.init self.new.init }
         ensures same_values { GivesNoOther I.may_give self.old.init self.new.init }
-        ensures own_value { gave_value self.new.number self.new.log ≡ true
-            → IfSome (value_of result) (MayGive I.may_give self.old.init) }
+        ensures gave { IsValue result → self.new.gave ≡ gave_value self.new.number self.new.log }
+        ensures own_value { self.new.gave ≡ true → IfSome (value_of result) (MayGive I.may_give self.old.init) }
     {
         let init = self.init.take();
         let mut side = PollSide {
@@ -182,7 +200,7 @@ impl<'a, T: Drop, I: Drop, R: Wait + AllocGlobal, V: Fits<T>> Attempt<'a, T, I, 
         &mut self,
         ending: Ending,
         error: Option<Failed<X>>,
-        put: Option<Shown<T>>,
+        put: Option<Written<T>>,
     ) -> Poll<Result<&'a T, X>>
     where
         I: Init<T, X>,
@@ -192,7 +210,7 @@ impl<'a, T: Drop, I: Drop, R: Wait + AllocGlobal, V: Fits<T>> Attempt<'a, T, I, 
         requires not_pending { ending ≡ Ending.Pending → ⊥ }
         requires error { ending ≡ Ending.Error → IsSome error }
         requires not_dropped { ending ≡ Ending.Dropped → ⊥ }
-        requires put { IfSome put (λ s. s.0.of ≡ self.old.cell.id) }
+        requires put { IfSome put (λ w. w.of ≡ self.old.cell.id) }
         ensures ending { ending_by X.ending result ≡ ending }
         ensures is_value { ending ≡ Ending.Value → IsValue result }
         ensures cell { self.new.cell ≡ self.old.cell }
@@ -205,16 +223,20 @@ impl<'a, T: Drop, I: Drop, R: Wait + AllocGlobal, V: Fits<T>> Attempt<'a, T, I, 
         ensures promise { IfSome (value_of result) (V.fits self.old.cell.about) }
         ensures own { IfReady result (λ a. IfErr a
             (λ x. X.ending x ≡ Ending.Error → IsSomeAnd error (λ e. e.error ≡ x))) }
-        ensures put { IfSome put (λ s. IfSome (value_of result) (λ v. v ≡ s.0.value)) }
+        ensures gave { IsValue result → self.new.gave ≡ is_some put }
+        ensures put { IfSome put (λ w. IfSome (value_of result) (λ v. v ≡ w.value)) }
     {
         match ending {
             Ending::Value => {
                 is_set_where_answered(&self.task.record());
                 let (value, written) = self.task.value();
-                if let Some(put) = put {
-                    put.0.agrees(&written);
-                }
-                self.shown = Some(Shown(written, []));
+                self.shown = match put {
+                    Some(put) => {
+                        put.agrees(&written);
+                        Shown::Own(written, [])
+                    }
+                    None => Shown::Other(written, []),
+                };
                 Poll::Ready(Ok(value))
             }
             Ending::Error => {
@@ -239,7 +261,7 @@ struct PollSide<'c, 'd, T, E, H> {
     value: Option<T>,
     // The value that it handed over, and what shows it in the cell.
     handed: Snapshot<Option<T>>,
-    written: Option<Shown<T>>,
+    written: Option<Written<T>>,
     error: Option<E>,
     // The init was Pending, and saw to it that the task is woken; or the task is listed with the waker of this poll.
     is_armed: bool,
@@ -338,7 +360,7 @@ impl<T: Drop, X: Failure, I: Init<T, X>> TaskSide<ListedWaker>
         ensures shown { told self.new ≡ record (told self.old) { has_shown = true } }
         ensures stays { Stays I.may_fail I.may_give (λ e. e.error) self.old self.new }
     {
-        self.written = Some(Shown(put, []));
+        self.written = Some(put);
     }
 
     ghost tells = { Prim.search rules };

@@ -12,6 +12,7 @@
 pub mod book;
 pub mod desk;
 pub mod hand;
+pub mod pollable;
 pub mod shared;
 pub mod task;
 mod ways;
@@ -20,5 +21,7 @@ pub use book::{CellRule, Leaf, Line, Record};
 pub use desk::Desk;
 pub use hand::{Hand, Mark, TaskWaker};
 pub use once_machine::parts::{Counted, Parts};
+pub use once_machine::word::{MAX_WAITERS, NEW, QINIT_BIT, READY_BIT};
+pub use pollable::Pollable;
 pub use shared::{Inner, Shared};
-pub use task::{Failed, Gives, Init, Pollable, Task, TaskSide, Yields};
+pub use task::{Failed, Gives, Init, Task, TaskSide, Yields};

@@ -17,9 +17,10 @@ use std::marker::{Model, PhantomData};
 use std::sync::{Mutex, Wait};
 use std::{fmt, mem};
 
-/// A cell that is filled by one future of its own. The task that holds the right drives that future on. It is never
-/// restarted, even if that task is dropped. Once it has given its value it is dropped, and then the value is set. A
-/// cell may be sent to another thread if `T: Send` and `F: Send`, and shared between threads if besides `T: Sync`.
+/// A cell that is filled by one future of its own. The task that holds the right drives that future on. If that task
+/// is dropped, the next one goes on where it stopped. Tests show this, and that the future is dropped once it has
+/// given its value; no clause does. A cell may be sent to another thread if `T: Send` and `F: Send`, and shared
+/// between threads if besides `T: Sync`.
 ///
 /// ```
 /// let lazy = Lazy::new(ready(3));

@@ -128,8 +128,8 @@ impl<T, V: Fits<T>> OnceCell<T, V> {
         self.contents.get_mut()
     }
 
-    /// The value, if it was set. The cell is then as a new one: empty, with a new record. A queue that
-    /// futures left there goes as well. It waits for nobody.
+    /// The value, if it was set. The cell is then as a new one: empty, with a record of its own, though no clause says
+    /// so. A queue that futures left there goes as well. It waits for nobody.
     pub fn take(&mut self) -> Option<T>
         ensures taken { Gives self.old result }
         ensures promise { is_shared self.old ≡ true → IfSome result (V.fits (about_of self.old)) }

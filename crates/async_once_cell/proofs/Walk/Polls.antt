@@ -1,5 +1,5 @@
 -- What a whole poll of a task leaves.
-use Rattle.std.proofs.Common.{◌≡◌, ℕ, false, true, List, [], ◌∷◌, ◌++◌, append_assoc, refl, sym, ap, ◌∙◌, subst, arith}
+use Rattle.std.proofs.Common.{◌≡◌, ℕ, false, List, [], ◌∷◌, ◌++◌, append_assoc, refl, sym, ap, ◌∙◌, subst, arith}
 use Rattle.std.specs.Prelude.{Bool, ◌||◌, ⊤}
 use Rattle.pagebook.specs.Slot.{Placed}
 use Rattle.std.proofs.lemmas.Bool.{false≢true}
@@ -58,12 +58,12 @@ gave_in_call {t = t} e {mid = mid} {u = u} call =
     ap (gave_since false) call.own ∙ gave_on false (entries_of t u) (Begin t t ∷ (mid ++ end_of t e ∷ []))
     ∙ gave_on false mid (end_of t e ∷ []) ∙ end_is_calm (gave_since false mid) t e
 
--- a value that an init gave in a poll is shown, if none is left
+-- a value is shown exactly if the init gave one in the poll, if none is left
 shown_there : (x y : Sided) (mid : List Entry) → IsReady x → has_given y ≡ gave_since (has_given x) mid → y.has_value ≡ false
-    → gave_since false mid ≡ true → y.has_shown ≡ true
-shown_there x y mid ready made none gave =
+    → y.has_shown ≡ gave_since false mid
+shown_there x y mid ready made none =
     let before : has_given x ≡ false = ap (λ b. b || x.has_shown) ready.1 ∙ ready.2 in
-    sym (ap (λ b. b || y.has_shown) none) ∙ made ∙ ap (λ g. gave_since g mid) before ∙ gave
+    sym (ap (λ b. b || y.has_shown) none) ∙ made ∙ ap (λ g. gave_since g mid) before
 
 -- it began, and its steps were made: so it ended
 pub polled : {W : Type 0} {whose : W → ℕ} {x y : Sided} {u v w : Own} {e : Ending} (c d : Placed) (before : Bool) (i : Idle) → (x.woke ≡ []) × IsReady x
@@ -89,7 +89,7 @@ polled {x = x} {y = y} {u = u} {v = v} {w = w} {e = e} c d before i (none, ready
       );
       error = ended.error;
       init = ended.init;
-      shown = λ value gave. shown_there x y walked.made.0 ready walked.made.4 (ended.none value) (sym (gave_in_call e call) ∙ gave);
+      shown = λ value. shown_there x y walked.made.0 ready walked.made.4 (ended.none value) ∙ sym (gave_in_call e call);
       finished = (λ p. live _ i (ended.pending p).0, told_pending e i ended.finished);
       not_dropped = ended.poll;
     }

@@ -9,12 +9,13 @@ use Rattle.once_machine.specs.Book.{TaskState}
 use Rattle.once_machine.specs.Machine.{drop_entries, fresh_task}
 use Rattle.async_once_cell.specs.Inner.Page.{Went, WordTells}
 use Rattle.async_once_cell.specs.Record.{Looks}
+use Rattle.async_once_cell.specs.Inner.Recalls.{HasRecalled}
 use Rattle.async_once_cell.specs.Inner.TwoTasks.{AreTwo, HasLearned}
 use Rattle.async_once_cell.specs.Inner.Places.{task_begun, task_dropping}
 use Rattle.async_once_cell.specs.Kept.{Grew, Sheet, entries_of, hand, most, sheets, writing_sheet}
 use Rattle.async_once_cell.specs.declared.inner.hand.Act.{Act}
 use Rattle.async_once_cell.specs.declared.inner.hand.Act.TheVariants.{ByTable, Enter, Full, Learn, Meet}
-use Rattle.async_once_cell.specs.declared.inner.hand.Act.TheVariants.{NonePut, Refused, Unput}
+use Rattle.async_once_cell.specs.declared.inner.hand.Act.TheVariants.{NonePut, Recall, Refused, Unput}
 use Rattle.async_once_cell.specs.declared.inner.hand.Act.TheVariants.{Begin as BeginPoll, BeginDrop, Ran as InitRan}
 use Rattle.async_once_cell.specs.declared.inner.hand.Act.TheVariants.{Look as LookFor, Make as MakeTask}
 use Rattle.async_once_cell.specs.Inner.Own.{IsHand, Stayed, Turned, number_in, own_in, task_in}
@@ -53,6 +54,7 @@ Tells (InitRan a) v n w = Goes v (Ran a) w
 Tells Refused v n w = Goes v RefusedCopy w
 Tells Unput v n w = Goes v (PutQueue None) w
 Tells Learn v n w = HasLearned v w
+Tells Recall v n w = HasRecalled v w
 Tells Meet v n w = AreTwo v w
 
 -- the slot is empty still, and the task begins to write it

@@ -9,6 +9,7 @@ pub use Rattle.async_once_cell.specs.Inner.Own.{IsWord, IsHand, number_in, Staye
 pub use Rattle.async_once_cell.specs.Inner.Page.{call_in, queue_of, Went}
 pub use Rattle.async_once_cell.specs.Inner.Parts.{CanCall, DidCall, parts_can, parts_did}
 pub use Rattle.async_once_cell.specs.Inner.Places.{numbered, CanRest, CanRefuse, task_begun, task_dropping}
+pub use Rattle.async_once_cell.specs.Inner.Recalls.{rests_with_right}
 pub use Rattle.async_once_cell.specs.Inner.Sections.{more_released, CanNote, IsLoading, Moment, Tells}
 pub use Rattle.async_once_cell.specs.Inner.Sides.{GivesFit, IsReady, IsTold, Sided, HasPut}
 pub use Rattle.async_once_cell.specs.Inner.Tasks.{TaskView, HasPolled}
@@ -29,6 +30,7 @@ pub use Rattle.once_machine.specs.Run.{AtEvery, IsRun}
 pub use Rattle.once_machine.specs.Steps.{is_resting, step_of_drop, in_call, is_value, release_place}
 pub use Rattle.once_machine.specs.Table.{DoorPut, Section, DoorGet, DoorTake, Got, PutQueue, Taken, Was, CountIn}
 pub use Rattle.once_machine.specs.Table.{Refused, counted, Load, Loaded, Put, PutValue, left_of}
+pub use Rattle.once_machine.specs.Tasks.{Holding, status}
 pub use Rattle.once_machine.specs.Word.{flags_of, sees}
 pub use Rattle.once_machine.specs.declared.step.Ending.{Ending}
 pub use Rattle.once_machine.specs.declared.waiters.Answer.{Answer}

@@ -27,7 +27,7 @@ pub record HasPolled (y : Sided) (e : Ending) (v w : TaskView) : Type 0 where
       × (y.woke ≡ handed mid)
   pub init : e ≡ EndPending → IsReady y  -- the init is there still, and gave no value
   pub error : e ≡ EndError → y.has_error ≡ true  -- the error is one that the init gave
-  -- if it ended with a value, and its own init gave one, the side was shown that this is the cell's
-  pub shown : e ≡ EndValue → gave_value w.number w.log ≡ true → y.has_shown ≡ true
+  -- if it ended with a value, the side was shown that its own is the cell's exactly if its own init gave one
+  pub shown : e ≡ EndValue → y.has_shown ≡ gave_value w.number w.log
   pub finished : (e ≡ EndPending) ↔ (w.finished ≡ false)  -- it goes on, or it is over
   pub not_dropped : e ≡ EndDropped → ⊥  -- it was no drop

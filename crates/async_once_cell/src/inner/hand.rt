@@ -1,16 +1,18 @@
 //! What a task has of its cell's book: its pen, what it has seen of the log, and the moments that it makes without the
 //! lock. Functions that do nothing say what is known of a record, and a trait says whose a waker is.
-ghost use Rattle.std.specs.Prelude.{◌≡◌, ◌≢◌, ℕ, None, true, false, [], ◌∷◌, reverse};
+ghost use Rattle.std.specs.Prelude.{◌≡◌, ◌≢◌, ◌↔◌, ℕ, None, true, false, [], ◌∷◌, reverse};
 ghost use Rattle.async_once_cell.specs.Inner.Acts.{Tells};
 ghost use Rattle.async_once_cell.specs.Inner.Prelude.{IsHand, number_in, IsWord, Stayed, CountIn, DoorPut, DoorTake};
 ghost use Rattle.async_once_cell.specs.Inner.Prelude.{PutQueue, Refused, Taken, counted, EndsSet, IsSet, PollsOnce};
 ghost use Rattle.async_once_cell.specs.Inner.Prelude.{WasFilled, IsPrefix, MatchOption, fresh_task, Made, Once};
 ghost use Rattle.async_once_cell.specs.Inner.Prelude.{AtEvery, IsRun, SomebodyCalled, Grew, entries_of, most, Went};
 ghost use Rattle.async_once_cell.specs.Inner.Prelude.{call_in, CanRefuse};
+ghost use Rattle.async_once_cell.specs.Inner.Prelude.{rests_with_right, Holding, status, in_call};
 
 use super::book::{CellPens, CellWord, Leaf, Line, Record};
+use super::pollable::Answered;
 use once_machine::parts::Counted;
-use once_machine::step::{Polled, RunRight};
+use once_machine::step::RunRight;
 use once_machine::waiters::WakerId;
 use once_machine::word::{MAX_WAITERS, QINIT_BIT, READY_BIT};
 use pagebook::Play;
@@ -37,13 +39,15 @@ pub enum Act {
     /// Begins a drop.
     BeginDrop,
     /// Polled its init.
-    Ran(Polled),
+    Ran(Answered),
     /// Was refused the copy of its waker.
     Refused,
     /// Was refused the memory of a queue.
     Unput,
     /// Learned more of the log, where it finds no entry of its own that it had not seen.
     Learn,
+    /// Looked at its own page: whether it rests with the right.
+    Recall,
     /// Met another task's pen.
     Meet,
 }
@@ -140,8 +144,8 @@ impl Hand {
         has_put.load::<Act, Act>(&Act::NonePut, &mut self.seen, &mut self.pens) == 0
     }
 
-    // For `poll_init` alone, which polled the init.
-    pub(super) fn ran(&mut self, answer: Polled)
+    // Writes down how the init answered.
+    pub(super) fn ran(&mut self, answer: Answered)
         requires right { HasRight self.old }
         ensures ran { HasRun self.old answer self.new }
     {
@@ -185,6 +189,22 @@ impl Hand {
         self.seen.note::<Act, Act>(&mut self.pens, &Act::Learn);
         stays_set(&before, &self.seen);
         stays_set(seen, &self.seen);
+    }
+
+    /// The task looks at its page: if it is in no call, it rests with the right exactly if the record says so.
+    pub fn recall(&mut self)
+        ensures book { self.new.seen.book ≡ self.old.seen.book }
+        ensures number { (own_of self.new).number ≡ (own_of self.old).number }
+        ensures task { (own_of self.new).task ≡ (own_of self.old).task }
+        ensures log { IsPrefix (own_of self.old).log (own_of self.new).log }
+        ensures set { IsSet (own_of self.old).log → IsSet (own_of self.new).log }
+        ensures holds { in_call (own_of self.old).task.step ≡ false
+            → (rests_with_right (own_of self.old).task.step ≡ true)
+            ↔ (status Once (own_of self.new).number (reverse (own_of self.new).log) ≡ Holding) }
+    {
+        let before = self.seen.again();
+        self.seen.note::<Act, Act>(&mut self.pens, &Act::Recall);
+        stays_set(&before, &self.seen);
     }
 
     /// Shows that two hands of one book are of two tasks. The first may learn more of the record.

@@ -1,7 +1,7 @@
 //! A task of a cell, with its whole polls and drops: its side, the init that it polls while it has the right, what it
 //! keeps between two calls, and its steps.
 ghost use Rattle.std.specs.Prelude.{◌≡◌, ◌≢◌, ◌<◌, ℕ, true, false, List, [], ◌∷◌, IsSome, IsSomeAnd, IfErr, IfOk, None};
-ghost use Rattle.std.specs.Prelude.{Option, Some, Ok};
+ghost use Rattle.std.specs.Prelude.{◌↔◌, IsTrue, Option, Some, Ok, reverse};
 ghost use Rattle.async_once_cell.specs.Inner.Shares.{cell_of, own};
 ghost use Rattle.async_once_cell.specs.Inner.Hands.{HasRight, HasRun};
 ghost use Rattle.async_once_cell.specs.Inner.Prelude.{DropBegin, DropEnd, Entry, Made, IsCall, Spans, StandsOn, end_of};
@@ -9,16 +9,17 @@ ghost use Rattle.async_once_cell.specs.Inner.Prelude.{handed, IfReady, OnPending
 ghost use Rattle.async_once_cell.specs.Inner.Prelude.{entries_of, EndsSet, IsSet, Ending, is_over, step_of, in_call};
 ghost use Rattle.async_once_cell.specs.Inner.Prelude.{is_resting, GivesFit, IsReady, IsTold, Sided, KeepsOwner};
 ghost use Rattle.async_once_cell.specs.Inner.Prelude.{TaskView, HasPolled, GivesNoOther, MayGive, polled_in};
-ghost use Rattle.async_once_cell.specs.Inner.Prelude.{given_error};
+ghost use Rattle.async_once_cell.specs.Inner.Prelude.{given_error, Once, Holding, status};
 
 use super::book::{CellSlot, Record};
 use super::hand::{Hand, Mark, TaskWaker};
+use super::pollable::Pollable;
 use super::shared::{Inner, Shared};
 use crate::error::{Failure, InitError, Refused};
 use boxcar::tag::{Names, Tag};
 use futures::Future;
 use futures::task::{Context, Poll};
-use once_machine::step::{Ending, Polled, Rest, Side, Step};
+use once_machine::step::{Ending, Rest, Side, Step};
 use once_machine::waiters::Renews;
 use pagebook::{Anything, Fits, Written};
 use std::alloc::AllocGlobal;
@@ -140,43 +141,11 @@ impl<T, E: Drop> Gives<T, InitError<E>> for Result<T, E> {
     }
 }
 
-/// A future that may be polled, only by a task that has the right. A clause sees the future.
-#[derive(Drop)]
-pub struct Pollable<F: Future> {
-    future: F,
-}
-
-impl<F: Future> Model for Pollable<F> {
-    ghost Value = { F };
-
-    ghost view = { λ p. p.future };
-
-    ghost invariant = { λ p. F.can_poll p.future };
-}
-
-impl<F: Future> Pollable<F> {
-    /// A box with this future.
-    pub fn new(future: F) -> Self
-        requires { F.can_poll future }
-        ensures { result ≡ future }
-    {
-        Pollable { future }
-    }
-
-    /// The future, for the owner of a cell. No clause says that it may be polled.
-    pub fn into_inner(self) -> F
-        ensures { result ≡ self }
-    {
-        self.future
-    }
-}
-
 impl<T, X: Failure, F: Future<Output: Gives<T, X>>> Yields<T, X> for Pollable<F> {
     ghost may_give = { λ f v. IsSomeAnd (F.Output.given_with v) (F.gives f) };
 }
 
-/// An init of the task's own, or the future of a lazy cell. It is polled here alone, where the answer is written into
-/// the record.
+/// An init of the task's own, or the future of a lazy cell.
 impl<T, X: Failure, F: Future<Output: Gives<T, X>>> Init<T, X> for Pollable<F> {
     ghost may_fail = { λ f x. IsSomeAnd (F.Output.given_as x) (F.gives f) };
 
@@ -188,24 +157,7 @@ impl<T, X: Failure, F: Future<Output: Gives<T, X>>> Init<T, X> for Pollable<F> {
         let Some(pollable) = init.take() else {
             unreachable!()
         };
-        let Pollable { mut future } = pollable;
-        match future.poll(cx) {
-            Poll::Pending => {
-                *init = Some(Pollable::new(future));
-                right.ran(Polled::Pending);
-                Poll::Pending
-            }
-            Poll::Ready(output) => match output.given() {
-                Ok(value) => {
-                    right.ran(Polled::Value);
-                    Poll::Ready(Ok(value))
-                }
-                Err(error) => {
-                    right.ran(Polled::Error);
-                    Poll::Ready(Err(Failed { error }))
-                }
-            },
-        }
+        pollable.ask(cx).recorded(init, right)
     }
 }
 
@@ -339,6 +291,21 @@ impl<'a, 'r, T, W: TaskWaker + Drop, R, V: Fits<T>> Task<'a, 'r, T, W, R, V> {
     {
         let parts = &mut self.parts;
         parts.hand.learn(seen);
+    }
+
+    /// Whether the task rests with the right, by the record too, of which it may learn more.
+    pub fn holds(&mut self) -> bool
+        requires live { self.old.finished ≡ false }
+        ensures cell { self.new.cell ≡ self.old.cell }
+        ensures number { self.new.number ≡ self.old.number }
+        ensures finished { self.new.finished ≡ self.old.finished }
+        ensures log { IsPrefix self.old.log self.new.log }
+        ensures set { IsSet self.old.log → IsSet self.new.log }
+        ensures holds { IsTrue result ↔ (status Once self.new.number (reverse self.new.log) ≡ Holding) }
+    {
+        let parts = &mut self.parts;
+        parts.hand.recall();
+        matches!(parts.idle, Idle::Quick | Idle::Queued)
     }
 
     /// Shows that two tasks of a cell have two numbers. The first may learn more of the record.

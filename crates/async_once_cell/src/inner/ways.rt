@@ -10,7 +10,7 @@
 //! While the lock is held, nothing of the caller's own is dropped or called: such a function answers how far it came,
 //! as [`Reached`], and puts the wakers that it took aside, as [`Spent`]. With the lock free, `go_on_from` drops the
 //! init if it is to be closed, and goes on.
-ghost use Rattle.std.specs.Prelude.{◌≡◌, ◌<◌, Bool, false, true};
+ghost use Rattle.std.specs.Prelude.{◌≡◌, ◌<◌, Bool, None, false, true};
 ghost use Rattle.async_once_cell.specs.Inner.Ways.{IsAt, IsBegun, IsUnder, Leads, LeadsBy, Polls, StandsBy, next_by};
 ghost use Rattle.async_once_cell.specs.Inner.Ways.{cell_of, own, own_of};
 ghost use Rattle.async_once_cell.specs.Inner.Prelude.{in_call, is_value, release_place, is_over, step_of, Own, call_in};
@@ -55,7 +55,9 @@ pub(super) struct Spent<W> {
 }
 
 impl<W: Drop> Spent<W> {
-    pub(super) fn keep(place: &mut Option<Self>, taken: Option<W>, copy: Option<W>) {
+    pub(super) fn keep(place: &mut Option<Self>, taken: Option<W>, copy: Option<W>)
+        requires none { place.old ≡ None }
+    {
         mem::forget(mem::replace(place, Some(Spent { taken, copy })));
     }
 }

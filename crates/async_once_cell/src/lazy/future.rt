@@ -1,11 +1,13 @@
 //! The future of a cell that owns its init.
-ghost use Rattle.std.specs.Prelude.{◌≡◌, ◌≢◌, ⊤, ℕ, IfSome, IsSome, List, None, Option, Result, false, true, reverse};
-ghost use Rattle.async_once_cell.specs.Prelude.{Answers, DidPoll, HasLeft, IfValue, IsValue, IsValueAtOnce, Polls};
+ghost use Rattle.std.specs.Prelude.{◌≡◌, ◌≢◌, ⊤, ℕ, IfErr, IfOk, IfSome, IsSome, List, None, Option, Result, false};
+ghost use Rattle.std.specs.Prelude.{◌↔◌, IsTrue, true, reverse};
+ghost use Rattle.async_once_cell.specs.Prelude.{Answers, DidPoll, HasLeft, IsValue, IsValueAtOnce, Polls, TellsGave};
 ghost use Rattle.async_once_cell.specs.Prelude.{PollsAs, SpansIn, Waits, ending_by, ending_of_refusal, value_of, IsSet};
 ghost use Rattle.async_once_cell.specs.Prelude.{PollsOnce, WasFilled, option_or, Bor, IfReady, OnPending, Covers};
 ghost use Rattle.async_once_cell.specs.Prelude.{Keeps, IsPrefix, Agrees, IsSetIn, about_of, is_shared, MayGive};
 ghost use Rattle.async_once_cell.specs.Prelude.{entries_of, most, end_of, SomebodyCalled, Once, AtEvery, IsRun};
-ghost use Rattle.async_once_cell.specs.Prelude.{NobodyForgotten};
+ghost use Rattle.async_once_cell.specs.Prelude.{NobodyForgotten, AnswersFit, AnswersLate, EndedInRun, SawEnd};
+ghost use Rattle.async_once_cell.specs.Prelude.{IsHolderIn};
 
 use crate::error::Refused;
 use crate::inner::{Failed, Hand, Init, Pollable, Yields};
@@ -59,6 +61,13 @@ where
         self.inner.is_finished()
     }
 
+    /// As [`Initializing::gave`]: whether this future drove the cell's to the value that it answered.
+    pub fn gave(&self) -> bool
+        ensures { result ≡ self.now.gave }
+    {
+        self.inner.gave()
+    }
+
     /// As [`Initializing::is_run`].
     pub fn is_run(&self)
         ensures run { is_shared self.now.cell ≡ true → IsRun Once most (reverse self.now.log) }
@@ -100,6 +109,20 @@ where
         self.inner.learn(token);
     }
 
+    /// As [`Initializing::holds`]: whether this future has the right to drive the cell's on.
+    pub fn holds(&mut self) -> bool
+        requires unfinished { self.old.finished ≡ false }
+        ensures cell { self.new.cell ≡ self.old.cell }
+        ensures task { self.new.task ≡ self.old.task }
+        ensures finished { self.new.finished ≡ self.old.finished }
+        ensures value { self.new.value ≡ self.old.value }
+        ensures log { IsPrefix self.old.log self.new.log }
+        ensures set { IsSetIn self.old.cell self.old.log → IsSetIn self.new.cell self.new.log }
+        ensures holds { IsTrue result ↔ IsHolderIn self.new.cell self.new.task self.new.log }
+    {
+        self.inner.holds()
+    }
+
     /// As [`Initializing::leave`]. The cell's future stays as it is, and another task drives it on.
     pub fn leave(&mut self)
         requires unfinished { self.old.finished ≡ false }
@@ -139,6 +162,7 @@ where
             → IfSome (value_of result) (λ value. V.fits (about_of self.old.cell) value) }
         ensures answered { self.new.value ≡ value_of result }
         ensures late { IsSetIn self.old.cell self.old.log → IsValue result }
+        ensures gave { TellsGave self.new result }
     {
         self.inner.poll(cx)
     }
@@ -157,11 +181,14 @@ where
         ensures promise { is_shared self.old.cell ≡ true → IfSome (value_of result) (V.fits (about_of self.old.cell)) }
         ensures answered { self.new.value ≡ value_of result }
         ensures log { IsPrefix token.old.log token.new.log }
+        ensures told { token.old.value ≡ None → IsPrefix self.new.log token.new.log }
+        ensures set { IsValue result → IsSetIn token.new.cell token.new.log }
         ensures spans { token.old.value ≡ None
             → SpansIn self.old.cell self.old.task (end_of self.old.task (ending_by ending_of_refusal result))
             token.old.log self.new.log }
         ensures late { IsSetIn token.old.cell token.old.log → IsValue result }
         ensures future_late { IsSetIn self.old.cell self.old.log → IsValue result }
+        ensures gave { token.old.value ≡ None → TellsGave self.new result }
     {
         self.inner.poll_as(cx, token)
     }
@@ -171,7 +198,9 @@ where
     where
         R: RandomSource,
         requires unfinished { self.finished ≡ false }
-        ensures promise { is_shared self.entry.cell ≡ true → IfValue result (V.fits (about_of self.entry.cell)) }
+        ensures last { IfOk result (λ a. IfErr a (λ x. EndedInRun self.entry.cell self.entry.task
+            (end_of self.entry.task (ending_of_refusal x)))) }
+        ensures fits { IfOk result (AnswersFit V.fits self.entry.cell) }
     {
         self.inner.wait()
     }
@@ -186,7 +215,10 @@ where
         ensures value { Waits token.old.value token.new.value result }
         ensures log { IsPrefix token.old.log token.new.log }
         ensures late { IsSetIn token.old.cell token.old.log → IsValueAtOnce result }
-        ensures promise { is_shared self.entry.cell ≡ true → IfValue result (V.fits (about_of self.entry.cell)) }
+        ensures set { IsValueAtOnce result → IsSetIn token.new.cell token.new.log }
+        ensures last { IfOk result (λ a. IfErr a (λ x. SawEnd self.entry.cell self.entry.task
+            (end_of self.entry.task (ending_of_refusal x)) token.old.log token.new.log)) }
+        ensures fits { IfOk result (AnswersFit V.fits self.entry.cell) }
     {
         self.inner.wait_as(token)
     }
@@ -194,7 +226,9 @@ where
     /// As [`Initializing::wait_on`].
     pub fn wait_on(self, parker: &mut Parker) -> io::Result<Result<&'a T, Refused>>
         requires unfinished { self.finished ≡ false }
-        ensures promise { is_shared self.entry.cell ≡ true → IfValue result (V.fits (about_of self.entry.cell)) }
+        ensures last { IfOk result (λ a. IfErr a (λ x. EndedInRun self.entry.cell self.entry.task
+            (end_of self.entry.task (ending_of_refusal x)))) }
+        ensures fits { IfOk result (AnswersFit V.fits self.entry.cell) }
     {
         self.inner.wait_on(parker)
     }
@@ -211,7 +245,10 @@ where
         ensures value { Waits token.old.value token.new.value result }
         ensures log { IsPrefix token.old.log token.new.log }
         ensures late { IsSetIn token.old.cell token.old.log → IsValueAtOnce result }
-        ensures promise { is_shared self.entry.cell ≡ true → IfValue result (V.fits (about_of self.entry.cell)) }
+        ensures set { IsValueAtOnce result → IsSetIn token.new.cell token.new.log }
+        ensures last { IfOk result (λ a. IfErr a (λ x. SawEnd self.entry.cell self.entry.task
+            (end_of self.entry.task (ending_of_refusal x)) token.old.log token.new.log)) }
+        ensures fits { IfOk result (AnswersFit V.fits self.entry.cell) }
     {
         self.inner.wait_as_on(token, parker)
     }
@@ -221,10 +258,17 @@ impl<'a, T: Drop, F: Future<Output = T>, R: Wait + AllocGlobal, V: Fits<T>> Futu
     for LazyFuturePin<'a, T, F, R, V> {
     type Output = Result<&'a T, Refused>;
 
+    // A value is the owner's, if there is one, and fits what the cell promises. A future that has seen that the cell is
+    // set answers one.
+    ghost gives = { λ f r. AnswersFit V.fits f.cell r × AnswersLate f.cell f.log r };
+
     fn poll(&mut self, cx: &mut Context<'_>) -> Poll<Result<&'a T, Refused>>
-        ensures value { IfReady result (λ _. ⊤) }
+        ensures value { IfReady result (λ r. AnswersFit V.fits self.old.cell r
+            × AnswersLate self.old.cell self.old.log r) }
         ensures again { OnPending result ⊤ }
-        ensures same { OnPending result ((x : Result (Bor T) Refused) → ⊤ → ⊤) }
+        ensures same { OnPending result ((x : Result (Bor T) Refused)
+            → AnswersFit V.fits self.new.cell x × AnswersLate self.new.cell self.new.log x
+            → AnswersFit V.fits self.old.cell x × AnswersLate self.old.cell self.old.log x) }
         ensures registered { OnPending result (Covers cx.new (λ _. ⊥)) }
         ensures kept { Keeps cx.old cx.new }
         ensures call { self.old.finished ≡ false
@@ -233,6 +277,7 @@ impl<'a, T: Drop, F: Future<Output = T>, R: Wait + AllocGlobal, V: Fits<T>> Futu
         ensures promise { is_shared self.old.cell ≡ true → IfSome (value_of result) (V.fits (about_of self.old.cell)) }
         ensures answered { self.old.finished ≡ false → self.new.value ≡ value_of result }
         ensures late { self.old.finished ≡ false → IsSetIn self.old.cell self.old.log → IsValue result }
+        ensures gave { TellsGave self.new result }
         ensures over { self.old.finished ≡ true → (result ≡ Poll.Pending) × (self.new ≡ self.old) }
     {
         <Initializing<'a, T, Refused, Driven<'a, F, R, V>, R, V> as Future>::poll(

@@ -1,7 +1,9 @@
 //! The future of a cell. Three names stand for it, by what its init gives and what it answers.
-ghost use Rattle.std.specs.Prelude.{◌≡◌, ◌≢◌, ⊤, IfSome, IsSome, None, Result, Some, false, true, reverse};
+ghost use Rattle.std.specs.Prelude.{◌≡◌, ◌≢◌, ◌↔◌, ⊤, IfSome, IsSome, IsTrue, None, Result, Some, false, true};
+ghost use Rattle.std.specs.Prelude.{reverse};
 ghost use Rattle.async_once_cell.specs.Futures.{IsOfCell, KeepsPromise, view_of_future};
-ghost use Rattle.async_once_cell.specs.Prelude.{Answers, AnswersOwn, DidPoll, HasLeft, IsMade, IsValue, Polls, PollsAs};
+ghost use Rattle.async_once_cell.specs.Prelude.{Answers, AnswersFit, AnswersLate, AnswersOwn, TellsGave, DidPoll};
+ghost use Rattle.async_once_cell.specs.Prelude.{HasLeft, IsMade, IsValue, Polls, PollsAs, IsHolderIn};
 ghost use Rattle.async_once_cell.specs.Prelude.{SpansIn, ending_by, value_of, option_or, Bor, IfReady, OnPending};
 ghost use Rattle.async_once_cell.specs.Prelude.{Covers, Keeps, IsPrefix, GivesNoOther, TellsOwn, Agrees, IsSetIn, IsOf};
 ghost use Rattle.async_once_cell.specs.Prelude.{about_of, is_shared, known_of, log_of, FutureView, Once, AtEvery};
@@ -122,6 +124,23 @@ impl<'a, T, X, I: Yields<T, X>, R: Wait + AllocGlobal, V: Fits<T>> Initializing<
         }
     }
 
+    /// Whether the future answered a value that its own init gave, which tells who made the value of a cell.
+    ///
+    /// ```
+    /// match future.poll(cx) {
+    ///     Poll::Ready(Ok(answered)) => Some((*answered, future.gave())),
+    ///     Poll::Ready(Err(_)) | Poll::Pending => None,
+    /// }
+    /// ```
+    pub fn gave(&self) -> bool
+        ensures { result ≡ self.now.gave }
+    {
+        match &self.state {
+            FutureState::Owned(_, _) | FutureState::Answered(_) | FutureState::Left(_) => false,
+            FutureState::Shared(attempt) => attempt.gave(),
+        }
+    }
+
     fn seen(&self) -> Seen<T>
         ensures of { IsOf self.now.cell result }
         ensures value { known_of self.now.cell result ≡ self.now.value }
@@ -223,6 +242,32 @@ impl<'a, T, X, I: Yields<T, X>, R: Wait + AllocGlobal, V: Fits<T>> Initializing<
         }
     }
 
+    /// Whether the future has the right to run its init, by the record too, of which it may learn more. If so, no other
+    /// task of the cell polls an init before this one is polled or dropped: see
+    /// [`one_task_holds`](crate::laws::one_task_holds).
+    ///
+    /// ```
+    /// let holds = future.holds();
+    /// future.is_run();
+    /// one_task_holds(); // if it holds, the next init of its cell that is polled is its own: this is proved
+    /// ```
+    pub fn holds(&mut self) -> bool
+        requires unfinished { self.old.finished ≡ false }
+        ensures cell { self.new.cell ≡ self.old.cell }
+        ensures task { self.new.task ≡ self.old.task }
+        ensures finished { self.new.finished ≡ self.old.finished }
+        ensures init { self.new.init ≡ self.old.init }
+        ensures value { self.new.value ≡ self.old.value }
+        ensures log { IsPrefix self.old.log self.new.log }
+        ensures set { IsSetIn self.old.cell self.old.log → IsSetIn self.new.cell self.new.log }
+        ensures holds { IsTrue result ↔ IsHolderIn self.new.cell self.new.task self.new.log }
+    {
+        match &mut self.state {
+            FutureState::Shared(attempt) => attempt.task.holds(),
+            FutureState::Owned(_, _) | FutureState::Answered(_) | FutureState::Left(_) => false,
+        }
+    }
+
     /// Leaves the cell as by a drop, which can have no contract: the init is dropped, and then the task gives the right
     /// back, or leaves those that wait. Then the future is finished. It may wait for the lock of the cell.
     ///
@@ -257,7 +302,7 @@ impl<'a, T, X, I: Yields<T, X>, R: Wait + AllocGlobal, V: Fits<T>> Initializing<
         match (&mut self.state, &token.seen) {
             (FutureState::Shared(attempt), Seen::Shared(_, Some(written))) => {
                 attempt.leave();
-                attempt.shown = Some(Shown(written.again(), []));
+                attempt.shown = Shown::Other(written.again(), []);
             }
             (FutureState::Owned(rt, _), Seen::Owned(true)) => {
                 self.state = FutureState::Answered(*rt);
@@ -295,6 +340,7 @@ where
         ensures late { IsSetIn self.old.cell self.old.log → IsValue result }
         ensures own { IfReady result (TellsOwn I.may_fail X.ending self.old.init) }
         ensures same { GivesNoOther I.may_fail self.old.init self.new.init }
+        ensures gave { TellsGave self.new result }
         ensures own_value { AnswersOwn I.may_give self.old self.new result }
         ensures same_values { GivesNoOther I.may_give self.old.init self.new.init }
     {
@@ -336,6 +382,8 @@ where
         ensures promise { is_shared self.old.cell ≡ true → IfSome (value_of result) (V.fits (about_of self.old.cell)) }
         ensures answered { self.new.value ≡ value_of result }
         ensures log { IsPrefix token.old.log token.new.log }
+        ensures told { token.old.value ≡ None → IsPrefix self.new.log token.new.log }
+        ensures set { IsValue result → IsSetIn token.new.cell token.new.log }
         ensures spans { token.old.value ≡ None
             → SpansIn self.old.cell self.old.task (end_of self.old.task (ending_by X.ending result))
             token.old.log self.new.log }
@@ -343,6 +391,7 @@ where
         ensures future_late { IsSetIn self.old.cell self.old.log → IsValue result }
         ensures own { IfReady result (TellsOwn I.may_fail X.ending self.old.init) }
         ensures same { result ≡ Poll.Pending → GivesNoOther I.may_fail self.old.init self.new.init }
+        ensures gave { token.old.value ≡ None → TellsGave self.new result }
         ensures own_value { token.old.value ≡ None → AnswersOwn I.may_give self.old self.new result }
         ensures same_values { result ≡ Poll.Pending → GivesNoOther I.may_give self.old.init self.new.init }
     {
@@ -363,14 +412,20 @@ impl<'a, T: Drop, X: Failure, I: Init<T, X>, R: Wait + AllocGlobal, V: Fits<T>> 
     type Output = Result<&'a T, X>;
 
     // An error that it tells of its init is one that the init may give.
-    ghost gives = { λ f r. TellsOwn I.may_fail X.ending f.init r };
+    // A value is the owner's, if there is one, and fits what the cell promises.
+    ghost gives = { λ f r. TellsOwn I.may_fail X.ending f.init r × AnswersFit V.fits f.cell r
+        × AnswersLate f.cell f.log r };
 
     #[inline(always)]
     fn poll(&mut self, cx: &mut Context<'_>) -> Poll<Result<&'a T, X>>
-        ensures value { IfReady result (TellsOwn I.may_fail X.ending self.old.init) }
+        ensures value { IfReady result (λ r. TellsOwn I.may_fail X.ending self.old.init r
+            × AnswersFit V.fits self.old.cell r × AnswersLate self.old.cell self.old.log r) }
         ensures again { OnPending result ⊤ }
-        ensures same { OnPending result ((x : Result (Bor T) X) → TellsOwn I.may_fail X.ending self.new.init x
-            → TellsOwn I.may_fail X.ending self.old.init x) }
+        ensures same { OnPending result ((x : Result (Bor T) X)
+            → TellsOwn I.may_fail X.ending self.new.init x × AnswersFit V.fits self.new.cell x
+            × AnswersLate self.new.cell self.new.log x
+            → TellsOwn I.may_fail X.ending self.old.init x × AnswersFit V.fits self.old.cell x
+            × AnswersLate self.old.cell self.old.log x) }
         ensures registered { OnPending result (Covers cx.new (λ _. ⊥)) }
         ensures kept { Keeps cx.old cx.new }
         ensures call { self.old.finished ≡ false → DidPoll self.old self.new cx.old cx.new (ending_by X.ending result) }
@@ -378,6 +433,7 @@ impl<'a, T: Drop, X: Failure, I: Init<T, X>, R: Wait + AllocGlobal, V: Fits<T>> 
         ensures promise { is_shared self.old.cell ≡ true → IfSome (value_of result) (V.fits (about_of self.old.cell)) }
         ensures answered { self.old.finished ≡ false → self.new.value ≡ value_of result }
         ensures late { self.old.finished ≡ false → IsSetIn self.old.cell self.old.log → IsValue result }
+        ensures gave { TellsGave self.new result }
         ensures own_value { AnswersOwn I.may_give self.old self.new result }
         ensures same_values { GivesNoOther I.may_give self.old.init self.new.init }
         ensures over { self.old.finished ≡ true → (result ≡ Poll.Pending) × (self.new ≡ self.old) }

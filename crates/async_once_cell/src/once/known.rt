@@ -117,6 +117,7 @@ impl<'a, T, V: Fits<T>> Known<'a, T, V> {
         ensures nobody_forgotten { is_shared self.now.cell ≡ true
             → AtEvery (NobodyForgotten Once) (reverse self.now.log) }
         ensures once { is_shared self.now.cell ≡ true → PollsOnce self.now.log }
+        ensures knows { is_some self.now.value ≡ true → IsSetIn self.now.cell self.now.log }
     {
         if let Seen::Shared(record, _) = &self.seen {
             is_run(record);

@@ -1,7 +1,7 @@
 //! The calls by which a thread waits for a value, and where it sleeps meanwhile.
-ghost use Rattle.std.specs.Prelude.{◌≡◌, IfOk, false, true};
-ghost use Rattle.async_once_cell.specs.Prelude.{IfValue, IsValueAtOnce, Waits, TellsOwn, IsPrefix, IsSetIn, about_of};
-ghost use Rattle.async_once_cell.specs.Prelude.{is_shared};
+ghost use Rattle.std.specs.Prelude.{◌≡◌, IfErr, IfOk, false};
+ghost use Rattle.async_once_cell.specs.Prelude.{AnswersFit, EndedInRun, IsValueAtOnce, Waits, TellsOwn, IsPrefix};
+ghost use Rattle.async_once_cell.specs.Prelude.{IsSetIn, SawEnd, end_of};
 
 use super::{Initializing, Known};
 use crate::error::Failure;
@@ -30,11 +30,15 @@ where
     where
         R: RandomSource,
         requires unfinished { self.finished ≡ false }
+        ensures last { IfOk result (λ a. IfErr a (λ x. EndedInRun self.entry.cell self.entry.task
+            (end_of self.entry.task (X.ending x)))) }
         ensures own { IfOk result (TellsOwn I.may_fail X.ending self.entry.init) }
-        ensures promise { is_shared self.entry.cell ≡ true → IfValue result (V.fits (about_of self.entry.cell)) }
+        ensures fits { IfOk result (AnswersFit V.fits self.entry.cell) }
     {
         let mut token = self.cell.token();
-        self.wait_as(&mut token)
+        let answer = self.wait_as(&mut token);
+        token.is_run();
+        answer
     }
 
     /// As [`wait`](Self::wait), and the token learns the value. A token that knows one gets it at once.
@@ -47,8 +51,11 @@ where
         ensures value { Waits token.old.value token.new.value result }
         ensures log { IsPrefix token.old.log token.new.log }
         ensures late { IsSetIn token.old.cell token.old.log → IsValueAtOnce result }
+        ensures set { IsValueAtOnce result → IsSetIn token.new.cell token.new.log }
+        ensures last { IfOk result (λ a. IfErr a (λ x. SawEnd self.entry.cell self.entry.task
+            (end_of self.entry.task (X.ending x)) token.old.log token.new.log)) }
         ensures own { IfOk result (TellsOwn I.may_fail X.ending self.entry.init) }
-        ensures promise { is_shared self.entry.cell ≡ true → IfValue result (V.fits (about_of self.entry.cell)) }
+        ensures fits { IfOk result (AnswersFit V.fits self.entry.cell) }
     {
         if let Some(value) = self.cell.get_as(token) {
             return Ok(Ok(value));
@@ -60,11 +67,15 @@ where
     /// As [`wait`](Self::wait), by a parker that the caller keeps. `io::Error` says that there was no memory to wait.
     pub fn wait_on(self, parker: &mut Parker) -> io::Result<Result<&'a T, X>>
         requires unfinished { self.finished ≡ false }
+        ensures last { IfOk result (λ a. IfErr a (λ x. EndedInRun self.entry.cell self.entry.task
+            (end_of self.entry.task (X.ending x)))) }
         ensures own { IfOk result (TellsOwn I.may_fail X.ending self.entry.init) }
-        ensures promise { is_shared self.entry.cell ≡ true → IfValue result (V.fits (about_of self.entry.cell)) }
+        ensures fits { IfOk result (AnswersFit V.fits self.entry.cell) }
     {
         let mut token = self.cell.token();
-        self.wait_as_on(&mut token, parker)
+        let answer = self.wait_as_on(&mut token, parker);
+        token.is_run();
+        answer
     }
 
     /// As [`wait_as`](Self::wait_as), by a parker that the caller keeps.
@@ -79,8 +90,11 @@ where
         ensures value { Waits token.old.value token.new.value result }
         ensures log { IsPrefix token.old.log token.new.log }
         ensures late { IsSetIn token.old.cell token.old.log → IsValueAtOnce result }
+        ensures set { IsValueAtOnce result → IsSetIn token.new.cell token.new.log }
+        ensures last { IfOk result (λ a. IfErr a (λ x. SawEnd self.entry.cell self.entry.task
+            (end_of self.entry.task (X.ending x)) token.old.log token.new.log)) }
         ensures own { IfOk result (TellsOwn I.may_fail X.ending self.entry.init) }
-        ensures promise { is_shared self.entry.cell ≡ true → IfValue result (V.fits (about_of self.entry.cell)) }
+        ensures fits { IfOk result (AnswersFit V.fits self.entry.cell) }
     {
         if let Some(value) = self.cell.get_as(token) {
             return Ok(Ok(value));

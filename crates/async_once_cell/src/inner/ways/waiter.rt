@@ -96,6 +96,7 @@ impl<T, W: TaskWaker + Drop, V: Fits<T>> Inner<T, W, V> {
         requires key { self.now.desk ≡ J.key }
         requires book { hand.old.seen.book ≡ J.key }
         requires stands { IsUnder W.whose S.state Place.DoorGet hand.old side.old }
+        requires spent { spent.old ≡ None }
         ensures book { hand.new.seen.book ≡ hand.old.seen.book }
         ensures leads { Reaches W.whose S.state hand.old side.old result hand.new side.new }
         ensures stays { S.stays side.old side.new }
@@ -120,6 +121,7 @@ impl<T, W: TaskWaker + Drop, V: Fits<T>> Inner<T, W, V> {
         requires book { hand.old.seen.book ≡ J.key }
         requires queue { (queue.value.head ≡ false) × (listings_of queue.value ≡ []) }
         requires stands { IsUnder W.whose S.state Place.DoorPut hand.old side.old }
+        requires spent { spent.old ≡ None }
         ensures book { hand.new.seen.book ≡ hand.old.seen.book }
         ensures leads { Reaches W.whose S.state hand.old side.old result.0 hand.new side.new }
         ensures stays { S.stays side.old side.new }
@@ -143,6 +145,7 @@ impl<T, W: TaskWaker + Drop, V: Fits<T>> Inner<T, W, V> {
     ) -> Reached
         requires held { IsHeld self.now.front.book desk.old hand.old }
         requires stands { IsUnder W.whose S.state (Place.CountIn tt) hand.old side.old }
+        requires spent { spent.old ≡ None }
         ensures held { IsHeld self.now.front.book desk.new hand.new }
         ensures leads { Reaches W.whose S.state hand.old side.old result hand.new side.new }
         ensures stays { S.stays side.old side.new }
@@ -165,6 +168,7 @@ impl<T, W: TaskWaker + Drop, V: Fits<T>> Inner<T, W, V> {
     ) -> Reached
         requires held { IsHeld self.now.front.book desk.old hand.old }
         requires stands { IsUnder W.whose S.state (Place.WaitLoad tt None) hand.old side.old }
+        requires spent { spent.old ≡ None }
         ensures held { IsHeld self.now.front.book desk.new hand.new }
         ensures leads { Reaches W.whose S.state hand.old side.old result hand.new side.new }
         ensures stays { S.stays side.old side.new }
@@ -186,6 +190,7 @@ impl<T, W: TaskWaker + Drop, V: Fits<T>> Inner<T, W, V> {
         requires key { self.now.desk ≡ J.key }
         requires book { hand.old.seen.book ≡ J.key }
         requires stands { IsUnder W.whose S.state (Place.Look tt ticket) hand.old side.old }
+        requires spent { spent.old ≡ None }
         ensures book { hand.new.seen.book ≡ hand.old.seen.book }
         ensures leads { Reaches W.whose S.state hand.old side.old result hand.new side.new }
         ensures stays { S.stays side.old side.new }
@@ -207,6 +212,7 @@ impl<T, W: TaskWaker + Drop, V: Fits<T>> Inner<T, W, V> {
     ) -> Reached
         requires held { IsHeld self.now.front.book desk.old hand.old }
         requires stands { IsUnder W.whose S.state (Place.Look tt ticket) hand.old side.old }
+        requires spent { spent.old ≡ None }
         ensures held { IsHeld self.now.front.book desk.new hand.new }
         ensures leads { Reaches W.whose S.state hand.old side.old result hand.new side.new }
         ensures stays { S.stays side.old side.new }
@@ -256,6 +262,7 @@ impl<T, W: TaskWaker + Drop, V: Fits<T>> Inner<T, W, V> {
     ) -> Reached
         requires held { IsHeld self.now.front.book desk.old hand.old }
         requires stands { IsUnder W.whose S.state (Place.List tt ticket waker) hand.old side.now }
+        requires spent { spent.old ≡ None }
         ensures held { IsHeld self.now.front.book desk.new hand.new }
         ensures leads { Reaches W.whose S.state hand.old side.now result hand.new side.now }
     {

@@ -1,12 +1,16 @@
 -- A token that finds the value learns it. One that finds nothing knew nothing before, and learns from the last poll.
 -- After a poll that is Pending the future is unfinished still, and the token knows nothing.
-use Rattle.std.proofs.Common.{rules, Option, sym, ◌∙◌, subst}
+use Rattle.std.proofs.Common.{rules, ℕ, Option, sym, ◌∙◌, subst}
 use Rattle.async_once_cell.proofs.Desks.{prefix_on}
 use Rattle.futures.specs.Poll.{IfReady}
 use Rattle.async_once_cell.specs.Inits.{TellsOwn}
 use Rattle.async_once_cell.specs.Polls.{DidPoll, Polls, PollsAs, ending_by}
 use Rattle.async_once_cell.proofs.Inits.{tells_on}
 use Rattle.async_once_cell.proofs.Looks.{look_grows}
+use Rattle.async_once_cell.proofs.Later.{saw_end, saw_error}
+use Rattle.async_once_cell.specs.Polls.{SawEnd, SpansIn}
+use Rattle.async_once_cell.specs.Walks.{end_of}
+use Rattle.futures.specs.declared.task.Poll.TheVariants.{Ready}
 use Rattle.async_once_cell.proofs.once.future.Initializing.wait_as_on.Goals as goal
 
 pub returns-in-Some-clause-value : goal.returns-in-Some-clause-value
@@ -29,6 +33,7 @@ loop-preserved g c =
       told.1,
       prefix_on c.args.token.now.log c.loop.token.log _ c.loop.invariant.4 asked.log,
       λ x m. c.loop.invariant.5 x (asked.same c.in_default-polled.is x m),
+      did.task ∙ c.loop.invariant.6,
     )
 
 pub returns-in-Ready-clause-log : goal.returns-in-Ready-clause-log
@@ -44,3 +49,16 @@ returns-in-Some-clause-log g c = look_grows _ _ _ _ _ c.get_as.ensures.look
 
 pub returns-in_err-add-clause-log : goal.returns-in_err-add-clause-log
 returns-in_err-add-clause-log g c = look_grows _ _ _ _ _ c.get_as.ensures.look
+
+pub returns-in-Ready-clause-last : goal.returns-in-Ready-clause-last
+returns-in-Ready-clause-last g c =
+    let ending = g.X.Failure.ending in
+    let asked = c.poll_as-polled.ensures in
+    let new = c.poll_as-polled.new in
+    let cell = sym c.loop.invariant.1 ∙ c.loop.invariant.2 ∙ c.requires.token_of_this_cell in
+    let spans = subst (λ r. SpansIn c.loop.self.cell c.loop.self.task (end_of c.loop.self.task (ending_by ending r)) c.loop.token.log new.self.log) c.in-Ready.is (asked.spans c.loop.invariant.3) in
+    let saw = saw_end c.loop.self.cell c.loop.self.task (end_of c.loop.self.task (ending_by ending (Ready c.in-Ready.answer)))
+    c.args.token.now.log c.loop.token.log new.self.log new.token.log c.loop.invariant.4 spans (asked.told c.loop.invariant.3) in
+    saw_error ending c.in-Ready.answer c.args.self.cell c.args.self.task c.args.token.now.log new.token.log
+    (subst (λ k. SawEnd k c.args.self.task (end_of c.args.self.task (ending_by ending (Ready c.in-Ready.answer))) c.args.token.now.log new.token.log) cell
+    (subst (λ (t : ℕ). SawEnd c.loop.self.cell t (end_of t (ending_by ending (Ready c.in-Ready.answer))) c.args.token.now.log new.token.log) c.loop.invariant.6 saw))

@@ -8,4 +8,4 @@ use Rattle.async_once_cell.proofs.once.future.Initializing.wait_as_on.Given as g
 abbrev pub invariant-loop : goal.invariant-loop
 invariant-loop g l =
     (l.self.finished ≡ false) × (l.token.cell ≡ l.self.cell) × (l.token.cell ≡ l.fn.token.cell) × (l.token.value ≡ None) × IsPrefix l.fn.token.log l.token.log
-    × GivesNoOther g.I.Init.may_fail l.fn.self.init l.self.init
+    × GivesNoOther g.I.Init.may_fail l.fn.self.init l.self.init × (l.self.task ≡ l.fn.self.task)
