@@ -5,6 +5,8 @@
 //! answer in `proofs` is there only so that it ends soon where an edit leaves nothing to find.
 #![tactic(auto)]
 
+pub mod executors;
+pub mod holder;
 pub mod lazy;
 pub mod leave;
 pub mod look;

@@ -1,8 +1,7 @@
 //! Polls of a cell's future.
 ghost use Rattle.std.specs.Prelude.{◌≡◌, IfSome, None, Some, false, true};
-ghost use Rattle.async_once_cell.specs.Prelude.{Begin, IsOneCall, IsSetIn, IsValue, MayGive, ending_by};
-ghost use Rattle.async_once_cell.specs.Prelude.{ending_of_refusal, end_of, gave_value, is_shared, value_of, IsArmed};
-ghost use Rattle.async_once_cell.specs.Prelude.{OnPending};
+ghost use Rattle.async_once_cell.specs.Prelude.{Begin, IsOneCall, IsPrefix, IsSetIn, IsValue, MayGive, ending_by};
+ghost use Rattle.async_once_cell.specs.Prelude.{ending_of_refusal, end_of, is_shared, value_of, IsArmed, OnPending};
 
 use async_once_cell::{InitFuture, Known, OnceCell, Refused};
 use futures::Future;
@@ -14,7 +13,7 @@ use std::sync::Wait;
 /// A future of a number that a caller brings.
 type Brought<'a, R> = InitFuture<'a, u64, Ready<u64>, R>;
 
-/// If it was the future's own init that gave a value in this poll, the answer is one that this init may give.
+/// If it was the future's own init that gave the value which is answered, this is one that the init may give.
 pub fn polled_own<'a, R>(
     future: &mut Brought<'a, R>,
     cx: &mut Context<'_>,
@@ -22,7 +21,7 @@ pub fn polled_own<'a, R>(
 where
     R: Wait + AllocGlobal,
     requires unfinished { future.old.finished ≡ false }
-    ensures { gave_value future.new.task future.new.log ≡ true
+    ensures { future.new.gave ≡ true
         → IfSome (value_of result) (λ value. IfSome future.old.init (λ init. init.0 ≡ Some value)) }
 {
     future.poll(cx)
@@ -110,4 +109,21 @@ where
     let polled = future.poll(cx);
     future.tell(token);
     polled
+}
+
+/// A poll with a token that knows nothing. The token has seen it, and after a value that the cell is set.
+pub fn polled_and_seen<'a, R>(
+    brought: &mut Brought<'a, R>,
+    cx: &mut Context<'_>,
+    token: &mut Known<'a, u64>,
+) -> Poll<Result<&'a u64, Refused>>
+where
+    R: Wait + AllocGlobal,
+    requires unfinished { brought.old.finished ≡ false }
+    requires token_of_this_cell { token.old.cell ≡ brought.old.cell }
+    requires knows_nothing { token.old.value ≡ None }
+    ensures seen { IsPrefix brought.new.log token.new.log }
+    ensures set { IsValue result → IsSetIn token.new.cell token.new.log }
+{
+    brought.poll_as(cx, token)
 }
