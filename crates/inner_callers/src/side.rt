@@ -11,7 +11,7 @@ pub struct Passing<S> {
     side: S,
 }
 
-impl<W: TaskWaker, S: TaskSide<W>> Side<W> for Passing<S> {
+impl<W: TaskWaker + Drop, S: TaskSide<W>> Side<W> for Passing<S> {
     type Value = S::Value;
 
     type Right = Hand;
