@@ -67,7 +67,7 @@ struct Row {
 // What is added to the value that an init would give if it is made to fail.
 const FAILURE: u64 = 7000;
 
-const ROW: Row = Row {
+const USUAL: Row = Row {
     name: "threads wait",
     kind: Kind::Try,
     repeats: 1,
@@ -85,7 +85,7 @@ const ROW: Row = Row {
 
 // All are told one value, of one init.
 const TOLD: [Row; 7] = [
-    ROW,
+    USUAL,
     Row {
         name: "threads block, and some inits fail",
         threads: (2, 4),
@@ -94,14 +94,14 @@ const TOLD: [Row; 7] = [
             Step(ALL, (0, 4), false, &[Block]),
         ],
         failed: 2,
-        ..ROW
+        ..USUAL
     },
     Row {
         name: "threads block, and drive one init",
         kind: Kind::Lazy(0, 5),
         threads: (2, 4),
         steps: &[Step(ALL, READY, false, &[Block])],
-        ..ROW
+        ..USUAL
     },
     Row {
         name: "up to three futures that drive one init are dropped midway",
@@ -112,7 +112,7 @@ const TOLD: [Row; 7] = [
             Step((4, 3, 4), READY, false, &[Leave(3)]),
             Step(ALL, READY, false, &[Drive]),
         ],
-        ..ROW
+        ..USUAL
     },
     Row {
         name: "some futures are dropped after a poll, and some inits fail",
@@ -122,7 +122,7 @@ const TOLD: [Row; 7] = [
             Step(ALL, (0, 4), false, &[Drive]),
         ],
         failed: 1,
-        ..ROW
+        ..USUAL
     },
     Row {
         name: "up to eleven inits fail, and some futures are dropped midway",
@@ -132,7 +132,7 @@ const TOLD: [Row; 7] = [
             Step(ALL, (1, 0), false, &[Drive]),
         ],
         failures: 12,
-        ..ROW
+        ..USUAL
     },
     Row {
         name: "ten keys, each thread with a parker",
@@ -140,7 +140,7 @@ const TOLD: [Row; 7] = [
         threads: (2, 2),
         cells: 10,
         steps: &[Step(ALL, (40, 0), false, &[WaitOn])],
-        ..ROW
+        ..USUAL
     },
 ];
 
@@ -153,7 +153,7 @@ const ALONE: Row = Row {
         Step(ALL, READY, false, WAITS),
         Step(ALL, READY, false, WAITS),
     ],
-    ..ROW
+    ..USUAL
 };
 
 // A thread waits alone, in each way: it is told the value or the error of its own init, and a set cell tells its value.
@@ -200,7 +200,7 @@ const FILL: Row = Row {
     turns: 4,
     steps: &[Step(ALL, READY, false, &[Leave(0)])],
     tells: false,
-    ..ROW
+    ..USUAL
 };
 
 // Each cell is filled once, and no queue is left. The last init of each thread is ready.
@@ -226,7 +226,7 @@ const HOLD: Row = Row {
     failed: u64::MAX,
     tells: false,
     fills: false,
-    ..ROW
+    ..USUAL
 };
 
 // One task holds at a time, and in the end nobody holds, is counted or is listed.
