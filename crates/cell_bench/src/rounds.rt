@@ -182,9 +182,7 @@ fn poll_each<R: Wait + AllocGlobal>(futures: &mut [Waiting<'_, R>], cx: &mut Con
 
 #[inline(never)]
 fn listed<R: Wait + AllocGlobal>(rt: &R, count: u64, cx: &mut Context<'_>) -> io::Result<u64> {
-    let (cell, switch) = (OnceCell::new(), Cell::new(false));
-    let mut futures = futures_of(rt, &cell, &switch, 2)?;
-    Ok(poll_second(futures.as_mut_slice(), &switch, count, cx))
+    round(rt, 1, count, cx)
 }
 
 // Polls each, the second so many times more, and each again once the switch is on.
@@ -223,26 +221,21 @@ fn waiters<R: Wait + AllocGlobal>(
 ) -> io::Result<u64> {
     let mut sum: u64 = 0;
     for _ in 0..count {
-        sum = sum.wrapping_add(round(rt, waiting, cx)?);
+        sum = sum.wrapping_add(round(rt, waiting, 0, cx)?);
     }
     Ok(sum)
 }
 
-fn round<R: Wait + AllocGlobal>(rt: &R, waiting: usize, cx: &mut Context<'_>) -> io::Result<u64> {
+// One holds and so many wait, of which the first is polled so many times more.
+fn round<R: Wait + AllocGlobal>(
+    rt: &R,
+    waiting: usize,
+    more: u64,
+    cx: &mut Context<'_>,
+) -> io::Result<u64> {
     let (cell, switch) = (OnceCell::new(), Cell::new(false));
     let mut futures = futures_of(rt, &cell, &switch, waiting.saturating_add(1))?;
-    Ok(poll_all_twice(futures.as_mut_slice(), &switch, cx))
-}
-
-// Polls each, and each again once the switch is on.
-fn poll_all_twice<R: Wait + AllocGlobal>(
-    futures: &mut [Waiting<'_, R>],
-    switch: &Cell<bool>,
-    cx: &mut Context<'_>,
-) -> u64 {
-    let sum = poll_each(futures, cx);
-    switch.set(true);
-    sum.wrapping_add(poll_each(futures, cx))
+    Ok(poll_second(futures.as_mut_slice(), &switch, more, cx))
 }
 
 // Nobody gets a value, so the sum is 0.
