@@ -1,9 +1,9 @@
 //! Threads that ask a table for the values of its keys.
-ghost use Rattle.std.specs.Prelude.{◌≡◌, ◌≢◌, ◌*◌, ◌^◌, ◌<◌, false, true, [], ◌∷◌, IfOk, IfErr, map};
+ghost use Rattle.std.specs.Prelude.{◌≡◌, ◌≢◌, ◌*◌, ◌^◌, ◌<◌, false, true, [], ◌∷◌, All, IfOk, IfErr, map};
 ghost use Rattle.async_once_cell.specs.Views.{about_of, is_shared};
 
 use crate::fault::Fault;
-use crate::fetch::Fetch;
+use crate::fetch::{Fetch, TenTimes};
 use crate::table::Memo;
 use async_once_cell::once::InitFuture;
 use futures::task::{Doorbell, Poll, Solo};
@@ -78,32 +78,41 @@ where
     Ok(Answer { key, value })
 }
 
+/// The answers for the keys [`KEYS`], in their order, by a table that promises ten times the key. So each value is
+/// that.
+#[derive(Drop)]
+pub struct Answers {
+    /// One answer for each key.
+    pub told: Vec<Answer>,
+    pub ghost keys: { map (λ answer. answer.key) told.items ≡ KEYS },
+    pub ghost tenfold: { All (λ answer. answer.value ≡ answer.key * 10) told.items },
+}
+
 /// Asks for the value of each key in turn.
 fn ask_all<R>(
     rt: &R,
-    memo: &Memo<u64>,
+    memo: &Memo<u64, TenTimes>,
     fetches: &AtomicU64,
     turns: u64,
-) -> Result<Vec<Answer>, Fault>
+) -> Result<Answers, Fault>
 where
     R: Wait + RandomSource + AllocGlobal + Clock,
-    ensures { IfOk result (λ answers. map (λ answer. answer.key) answers.items ≡ KEYS) }
 {
-    let mut answers = Vec::new(rt.alloc());
+    let mut told = Vec::new(rt.alloc());
     for key in KEYS {
-        answers.push(ask(rt, memo, fetches, key, turns)?)?;
+        told.push(ask(rt, memo, fetches, key, turns)?)?;
     }
-    Ok(answers)
+    Ok(Answers { told })
 }
 
 /// What two threads are told that ask for each key at once. It waits for both to end, also if it
 /// gives up.
 pub fn ask_twice<R>(
     rt: &R,
-    memo: &Memo<u64>,
+    memo: &Memo<u64, TenTimes>,
     fetches: &AtomicU64,
     turns: u64,
-) -> Result<Vec<Answer>, Fault>
+) -> Result<Answers, Fault>
 where
     R: Threads + Wait + RandomSource + AllocGlobal + Clock + Sync,
 {
@@ -119,10 +128,11 @@ where
 
 // The answers of two threads, if neither gave up and they are the same.
 fn agreed_by(
-    first: Result<Vec<Answer>, Fault>,
-    second: Result<Vec<Answer>, Fault>,
-) -> Result<Vec<Answer>, Fault> {
-    agreed(first?, second?)
+    first: Result<Answers, Fault>,
+    second: Result<Answers, Fault>,
+) -> Result<Answers, Fault> {
+    let told = agreed(first?.told, second?.told)?;
+    Ok(Answers { told })
 }
 
 /// The answers of two threads, if they are the same.

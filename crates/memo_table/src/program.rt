@@ -1,8 +1,9 @@
 //! A whole run, which the program `memo` makes: what it prints, and the status that it ends with.
 ghost use Rattle.std.specs.Prelude.{◌≡◌, OnOk, OnErr};
 
-use crate::ask::{Answer, KEYS, TURNS, ask_twice};
+use crate::ask::{Answer, Answers, KEYS, TURNS, ask_twice};
 use crate::fault::Fault;
+use crate::fetch::TenTimes;
 use crate::table::Memo;
 use std::alloc::AllocGlobal;
 use std::io;
@@ -19,16 +20,22 @@ where
     R: Threads + Wait + RandomSource + AllocGlobal + Clock + Sync,
     O: Write,
 {
-    let memo = Memo::new(rt.alloc(), Vec::from_array(rt.alloc(), KEYS)?)?;
+    let memo = Memo::promised(rt.alloc(), Vec::from_array(rt.alloc(), KEYS)?)?;
     show(rt, &memo, TURNS, output)
 }
 
 /// Has two threads ask a table for each of the keys [`KEYS`], with so many turns for each. Then it
-/// prints what they were told, and how often a key was fetched here, and flushes the writer.
+/// prints what they were told, which is ten times the key, and how often a key was fetched here, and
+/// flushes the writer.
 ///
 /// Nothing is written before all is known. So only if a write or the flush fails may a beginning
 /// have gone out.
-pub fn show<R, O>(rt: &R, memo: &Memo<u64>, turns: u64, output: &mut O) -> Result<(), Fault>
+pub fn show<R, O>(
+    rt: &R,
+    memo: &Memo<u64, TenTimes>,
+    turns: u64,
+    output: &mut O,
+) -> Result<(), Fault>
 where
     R: Threads + Wait + RandomSource + AllocGlobal + Clock + Sync,
     O: Write,
@@ -54,8 +61,8 @@ pub fn status<E: Eprint>(errors: &E, ended: Result<(), Fault>) -> u8
 }
 
 /// Writes a line for each answer, and one for the fetches.
-fn print_answers<O: Write>(output: &mut O, answers: &[Answer], fetches: u64) -> io::Result<()> {
-    for Answer { key, value } in answers {
+fn print_answers<O: Write>(output: &mut O, answers: &Answers, fetches: u64) -> io::Result<()> {
+    for Answer { key, value } in &answers.told {
         writeln!(output, "{key} {value}")?;
     }
     writeln!(output, "fetches {fetches}")?;

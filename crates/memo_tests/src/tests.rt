@@ -13,6 +13,7 @@ use futures::test::MockTask;
 use memo_table::ask::{KEYS, ask};
 use memo_table::fault::Fault;
 use memo_table::table::Memo;
+use pagebook::Fits;
 use std::alloc::{AllocError, AllocGlobal, Global};
 use std::fmt::Debug;
 use std::process::Abort;
@@ -34,10 +35,10 @@ fn same_text(rt: &impl Abort, name: &str, found: &str, wanted: &str) {
     assert_eq!(rt; found, wanted, "{name}");
 }
 
-fn table(alloc: Global, keys: &[u64]) -> Result<Memo<u64>, AllocError> {
+fn table<V: Fits<u64>>(alloc: Global, keys: &[u64]) -> Result<Memo<u64, V>, AllocError> {
     let mut given = Vec::new(alloc);
     given.extend_from_slice(keys)?;
-    Memo::new(alloc, given)
+    Memo::promised(alloc, given)
 }
 
 // The value at a key, 0 if its cell is empty; None if there is no cell.
@@ -165,12 +166,12 @@ fn a_table_is_refused(rt: HostRuntime) -> Result<(), Fail> {
 }
 
 // A future by which a task holds the cell of a key for good; None if the cell is not free.
-fn holder<'a, R: Wait + AllocGlobal>(
+fn holder<'a, R: Wait + AllocGlobal, V: Fits<u64>>(
     rt: &'a R,
-    memo: &'a Memo<u64>,
+    memo: &'a Memo<u64, V>,
     key: u64,
     task: &MockTask,
-) -> Option<InitFuture<'a, u64, Pending<u64>, R>> {
+) -> Option<InitFuture<'a, u64, Pending<u64>, R, V>> {
     let mut holder = memo.cell(key)?.get_or_init(rt, pending());
     if task.poll(&mut holder).is_ready() {
         return None;
