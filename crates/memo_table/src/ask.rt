@@ -1,6 +1,7 @@
 //! Threads that ask a table for the values of its keys.
 ghost use Rattle.std.specs.Prelude.{◌≡◌, ◌≢◌, ◌*◌, ◌^◌, ◌<◌, false, true, [], ◌∷◌, All, IfOk, IfErr, map};
 ghost use Rattle.async_once_cell.specs.Views.{about_of, is_shared};
+ghost use Rattle.memo_table.specs.declared.ask.TheConstants.{KEYS};
 
 use crate::fault::Fault;
 use crate::fetch::{Fetch, TenTimes};
