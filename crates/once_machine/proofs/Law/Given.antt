@@ -64,39 +64,50 @@ given_at_most n p (SetTo v) b = b
 given_at_most n p Empty b = omega arith
 given_at_most n p (Held t) b = bit_at_most n (is_value (p t).ran) b
 
+-- what may be said of a task by its status and its last call
+abbrev Noted : Type 1
+Noted = Status → LastCall → Type 0
+
 module _ (K : Kind) (limit t : ℕ) where
-  unran_own : (e : Entry) (h : List Entry) → is_of t e ≡ true → IsLegal K limit e h → Unran (status K t h) (last_call K t h)
-      → Unran (status_after e (cell K h) (status K t h)) (last_call_after e (cell K h) (status K t h) (last_call K t h))
+  -- it holds of the task t
+  abbrev Holds : Noted → List Entry → Type 0
+  Holds P h = P (status K t h) (last_call K t h)
+
+  -- and after this entry of its own
+  abbrev HoldsAfter : Noted → Entry → List Entry → Type 0
+  HoldsAfter P e h = P (status_after e (cell K h) (status K t h)) (last_call_after e (cell K h) (status K t h) (last_call K t h))
+
+  -- an entry of another task changes nothing of it
+  noted_on : (P : Noted) (e : Entry) (h : List Entry) (b : Bool) → is_of t e ≡ b → (is_of t e ≡ true → HoldsAfter P e h) → Holds P h → Holds P (e ∷ h)
+  noted_on P e h true is own before = rw is (own is)
+  noted_on P e h false is own before = rw is before
+
+  -- what holds at the start, and after each entry of t, holds of every run
+  at_each : (P : Noted) → Holds P []
+      → ((e : Entry) (h : List Entry) → is_of t e ≡ true → IsLegal K limit e h → Holds P h → HoldsAfter P e h)
+      → (h : List Entry) → IsRun K limit h → Holds P h
+  at_each P first own [] r = first
+  at_each P first own (e ∷ h) r =
+      let before : Holds P h = at_each P first own h r.1 in noted_on P e h (is_of t e) refl (λ is. own e h is r.0 before) before
+
+  unran_own : (e : Entry) (h : List Entry) → is_of t e ≡ true → IsLegal K limit e h → Holds Unran h → HoldsAfter Unran e h
   unran_own (End u Pending) h n l ih s = absurd (pending_drops u (cell K h) s)
   unran_own (Ran u a) h n l ih s =
       let no : Polling ≡ Dropping = sym (subst (λ v. status K v h ≡ Polling) (eqb-true u t n) l.1) ∙ s in cc
   unran_own e h n l ih s = grind (arith, nat_tests, common_steps, ih)
 
-  unran_by : (e : Entry) (h : List Entry) (b : Bool) → is_of t e ≡ b → IsLegal K limit e h → Unran (status K t h) (last_call K t h)
-      → Unran (status K t (e ∷ h)) (last_call K t (e ∷ h))
-  unran_by e h true is l ih s = rw is (unran_own e h is l ih (rw is at s))
-  unran_by e h false is l ih s = rw is (ih (rw is at s))
+  unran : (h : List Entry) → IsRun K limit h → Holds Unran h
+  unran h r = at_each Unran (λ s. refl) unran_own h r
 
-  unran : (h : List Entry) → IsRun K limit h → Unran (status K t h) (last_call K t h)
-  unran [] r s = refl
-  unran (e ∷ h) r s = unran_by e h (is_of t e) refl r.0 (λ k. unran h r.1 k) s
-
-  unvalued_own : (e : Entry) (h : List Entry) → is_of t e ≡ true → IsLegal K limit e h → Unvalued (status K t h) (last_call K t h)
-      → Unvalued (status_after e (cell K h) (status K t h)) (last_call_after e (cell K h) (status K t h) (last_call K t h))
+  unvalued_own : (e : Entry) (h : List Entry) → is_of t e ≡ true → IsLegal K limit e h → Holds Unvalued h → HoldsAfter Unvalued e h
   unvalued_own (End u Pending) h n l ih s =
       pending_unvalued K limit t h (last_call K t h).ran (subst (λ v. MayEnd K limit v Pending (last_call K v h).ran h) (eqb-true u t n) l.1)
   unvalued_own (Ran u a) h n l ih s =
       let no : Polling ≡ Holding = sym (subst (λ v. status K v h ≡ Polling) (eqb-true u t n) l.1) ∙ s in cc
   unvalued_own e h n l ih s = grind (arith, nat_tests, common_steps, ih)
 
-  unvalued_by : (e : Entry) (h : List Entry) (b : Bool) → is_of t e ≡ b → IsLegal K limit e h → Unvalued (status K t h) (last_call K t h)
-      → Unvalued (status K t (e ∷ h)) (last_call K t (e ∷ h))
-  unvalued_by e h true is l ih s = rw is (unvalued_own e h is l ih (rw is at s))
-  unvalued_by e h false is l ih s = rw is (ih (rw is at s))
-
-  unvalued : (h : List Entry) → IsRun K limit h → Unvalued (status K t h) (last_call K t h)
-  unvalued [] r s = refl
-  unvalued (e ∷ h) r s = unvalued_by e h (is_of t e) refl r.0 (λ k. unvalued h r.1 k) s
+  unvalued : (h : List Entry) → IsRun K limit h → Holds Unvalued h
+  unvalued h r = at_each Unvalued (λ s. refl) unvalued_own h r
 
   -- the init of a holder that may begin a poll or a drop gave no value
   begins_unvalued : (h : List Entry) → IsRun K limit h → cell K h ≡ Held t → MayBegin (status K t h) → is_value (last_call K t h).ran ≡ false
