@@ -13,7 +13,7 @@ use Rattle.once_machine.specs.declared.step.Polled.{Polled}
 use Rattle.once_machine.specs.Steps.{MayClose, is_value, release_place, step_of_poll}
 use Rattle.once_machine.specs.Table.{Call, Load, Quick, Fast, CountIn, AddOne, CountOut, DoorGet, DoorPut, DoorTake, Section, Refuse, Run, Put}
 use Rattle.once_machine.specs.Table.{Told, Loaded, TriedQuick, TriedFast, CountedIn, Added, CountedOut, Got, PutQueue, Taken, Was, Refused, Ran, PutValue}
-use Rattle.once_machine.specs.Table.{GoesOn, Line, Looked, MayRefuse, Next, SideDid, Tells, after, after_copy, after_fast, after_list, after_load, after_quick, after_run, after_start}
+use Rattle.once_machine.specs.Table.{GoesOn, Line, Looked, MayRefuse, Next, SideDid, Tells, after, after_copy, after_count_out, after_fast, after_list, after_load, after_quick, after_run, after_start}
 use Rattle.once_machine.specs.Table.{call_at, next_at, next_rest, wants_copy}
 use Rattle.once_machine.specs.declared.step.Ending.TheVariants.{Value as EndValue}
 use Rattle.once_machine.specs.declared.step.Ending.{Ending}
@@ -23,7 +23,7 @@ use Rattle.once_machine.specs.declared.step.Rest.TheVariants.{Wait as RestWait}
 use Rattle.once_machine.specs.declared.step.Step.{Step}
 use Rattle.once_machine.specs.declared.step.Step.TheVariants.{UnderWay}
 use Rattle.once_machine.specs.declared.step.Place.{Place}
-use Rattle.once_machine.specs.Word.{Flags, is_zero}
+use Rattle.once_machine.specs.Word.{Flags, is_ready_bit, is_zero}
 use Rattle.once_machine.specs.declared.step.Place.TheVariants.{List as AtList, Look as AtLook, Start as AtStart, TryQuick as AtTryQuick, WaitLoad as AtWaitLoad}
 use Rattle.once_machine.specs.declared.step.Place.TheVariants.{Run as AtRun, Put as AtPut, Fast as AtFast, AddOne as AtAddOne, DoorAgain as AtDoorAgain, Release as AtRelease, CountOut as AtCountOut}
 use Rattle.async_once_cell.specs.declared.inner.task.Idle.{Idle}
@@ -140,6 +140,11 @@ module _ {W : Type 0} (whose : W → ℕ) where
     -- a holder that met others counts itself in
     pub added : (e : Ending) → Stands whose false x v More (UnderWay (AtAddOne e)) → DidCall whose v Added w → y ≡ x → Leads whose x v More (UnderWay (AtDoorAgain e)) y w
     added e is did same = led (AtAddOne e) Added (next_at (AtDoorAgain e)) refl refl refl is did refl same
+
+    -- counting out, by whether the cell is set and nobody else is counted
+    pub counted_out : (e : Ending) (word : Flags) (n : Next W ⊤) → Stands whose false x v More (UnderWay (AtCountOut e)) → DidCall whose v (CountedOut word) w
+        → after_count_out (is_ready_bit word) e ≡ n → y ≡ closed_if n.closes x → Leads whose x v n.progress n.step y w
+    counted_out e word n is did leads closed = led (AtCountOut e) (CountedOut word) n refl refl (_, refl) is did leads closed
 
     -- the fast release, by whether it was won and whether it fills
     pub freed : (e : Ending) (fills won : Bool) (n : Next W ⊤) → Stands whose false x v More (UnderWay (AtFast e)) → DidCall whose v (TriedFast fills won) w

@@ -42,3 +42,20 @@ returns g c =
           c.requires.stands c.fast.ensures.1 c.is_value-filled.ensures (λ i. after_fast (c.if-not-fast.false i) (fills i) e) refl;
       stays = g.met.S.Side.stays_same _;
     }
+
+pub at_add_one-requires : goal.at_add_one-requires
+at_add_one-requires g c =
+    let e = c.args.ending in
+    record {
+      stands = (freed g.W.TaskWaker.whose e c.is_value-filled.result c.fast.result (next_at (AtAddOne e))
+          c.requires.stands c.fast.ensures.1 c.is_value-filled.ensures (ap (λ b. after_fast b (is_value e) e) c.if-not-fast.true) refl).stands;
+    }
+
+pub at_door_take-requires : goal.at_door_take-requires
+at_door_take-requires g c =
+    let e = c.args.ending in
+    let fills : is_value e ≡ true = sym c.is_value-filled.ensures ∙ c.if-filled.true in
+    record {
+      stands = (freed g.W.TaskWaker.whose e c.is_value-filled.result c.fast.result (next_at (AtDoorTake e))
+          c.requires.stands c.fast.ensures.1 c.is_value-filled.ensures (λ i. after_fast (c.if-not-fast.false i) (fills i) e) refl).stands;
+    }

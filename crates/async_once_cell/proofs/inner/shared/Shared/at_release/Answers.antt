@@ -22,3 +22,12 @@ returns g c =
           c.at_count_out.ensures.leads;
       stays = c.wake.ensures.stays;
     }
+
+pub at_count_out-requires : goal.at_count_out-requires
+at_count_out-requires g c =
+    let out = c.lock_at_release-out.result in
+    let did = subst (λ b. DidCall g.W.TaskWaker.whose (own c.args.self.now) (Was tt (Release b) (Released out) (Release b)) (own_of c.lock_at_release-out.new.hand))
+    c.is_value.ensures c.lock_at_release-out.ensures.did in
+    record {
+      stands = (released g.W.TaskWaker.whose c.args.ending out (Release (is_value c.args.ending)) c.requires.stands did (g.met.S.TaskSide.tells.wake _ _ _ c.wake.ensures.did)).stands;
+    }

@@ -46,3 +46,19 @@ returns g c =
           c.at_try_quick.ensures.leads;
       stays = c.at_try_quick.ensures.stays;
     }
+
+pub at_door_get-requires-clause-stands : goal.at_door_get-requires-clause-stands
+at_door_get-requires-clause-stands g c =
+    let word = flags_of c.load.result in
+    let unset : word.ready ≡ false = ap (λ (w : Flags). w.ready) (sym c.from_bits-word.ensures) ∙ sym c.is_ready.ensures ∙ c.if-is_ready.false in
+    let met : is_zero word ≡ false = ap is_zero (sym c.from_bits-word.ensures) ∙ sym c.is_new.ensures ∙ c.if-not-is_new.true in
+    (started g.W.TaskWaker.whose word (next_at AtDoorGet) c.requires.stands c.load.ensures.1
+    (ap (λ b. after_start b (is_zero word)) unset ∙ ap (after_start false) met) refl).stands
+
+pub at_try_quick-requires-clause-stands : goal.at_try_quick-requires-clause-stands
+at_try_quick-requires-clause-stands g c =
+    let word = flags_of c.load.result in
+    let unset : word.ready ≡ false = ap (λ (w : Flags). w.ready) (sym c.from_bits-word.ensures) ∙ sym c.is_ready.ensures ∙ c.if-is_ready.false in
+    let alone : is_zero word ≡ true = ap is_zero (sym c.from_bits-word.ensures) ∙ sym c.is_new.ensures ∙ c.if-not-is_new.false in
+    (started g.W.TaskWaker.whose word (next_at AtTryQuick) c.requires.stands c.load.ensures.1
+    (ap (λ b. after_start b (is_zero word)) unset ∙ ap (after_start false) alone) refl).stands
