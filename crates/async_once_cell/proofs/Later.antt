@@ -1,22 +1,20 @@
 -- A poll or a leave that came after what was learned came after what was seen before that.
-use Rattle.std.specs.Prelude.{IfErr, IfOk, Result, Ok, Err}
-use Rattle.std.proofs.Common.{◌≡◌, ℕ, List, [], ◌∷◌, ◌++◌, reverse, true, false, Option, Some, None, ap, ◌∙◌, refl, subst, sym}
+use Rattle.std.specs.Prelude.{IfErr, Result, Ok, Err}
+use Rattle.std.proofs.Common.{◌≡◌, ℕ, List, [], ◌∷◌, ◌++◌, true, false, Option, Some, None, ap, ◌∙◌, refl, subst, sym}
 use Rattle.std.proofs.lemmas.Bool.{false≢true}
 use Rattle.std.specs.Option.{is_some}
 use mathlib.Core.List.{IsPrefix, cons-ne-nil}
 use Rattle.futures.specs.declared.task.context.Context.{Context}
 use Rattle.futures.specs.Task.{Keeps}
-use Rattle.once_machine.specs.Record.{Begin, DropBegin, DropEnd, Entry, Once}
-use Rattle.once_machine.specs.Run.{IsRun}
-use Rattle.once_machine.proofs.Told.Beginnings.{run_of_beginning}
-use Rattle.async_once_cell.specs.Kept.{entries_of, most}
+use Rattle.once_machine.specs.Record.{Begin, DropBegin, DropEnd, Entry}
+use Rattle.async_once_cell.specs.Kept.{entries_of}
 use Rattle.once_machine.specs.declared.step.Ending.TheVariants.{Dropped as EndDropped}
 use Rattle.once_machine.specs.declared.step.Ending.{Ending}
 use Rattle.async_once_cell.specs.Walks.{end_of}
 use Rattle.async_once_cell.proofs.Desks.{prefix_on}
 use Rattle.futures.specs.declared.task.Poll.TheVariants.{Ready}
-use Rattle.async_once_cell.specs.Polls.{CallIn, DidPoll, EndedInRun, Ends, HasLeft, PollsAs, SawEnd, SpansIn, ending_by}
-use Rattle.async_once_cell.specs.Views.{CellView, FutureView, Owned, Shared, is_shared}
+use Rattle.async_once_cell.specs.Polls.{CallIn, DidPoll, Ends, HasLeft, IfFailure, PollsAs, SawEnd, SpansIn, ending_by}
+use Rattle.async_once_cell.specs.Views.{CellView, FutureView, Owned, Shared}
 
 -- what begins nothing is nothing
 nil_before : (old rest : List Entry) → old ++ rest ≡ [] → old ≡ []
@@ -93,14 +91,11 @@ module _ {T : Type 0} where
   polls_unknown None old new before after e unknown did = did
   polls_unknown (Some x) old new before after e unknown did = absurd (false≢true (sym unknown))
 
--- what is said of the error that a wait answers, if it answers one
-abbrev IfFailed : {A X Y : Type 0} → Result (Result A X) Y → (X → Type 0) → Type 0
-IfFailed r P = IfOk r (λ a. IfErr a P)
-
-if_failed : {A X Y : Type 0} {P Q : X → Type 0} (r : Result (Result A X) Y) → ((x : X) → P x → Q x) → IfFailed r P → IfFailed r Q
-if_failed (Ok (Ok y)) f p = tt
-if_failed (Ok (Err x)) f p = f x p
-if_failed (Err y) f p = tt
+-- of a failure more may be said
+if_failure : {A X Y : Type 0} {P Q : X → Type 0} (r : Result (Result A X) Y) → ((x : X) → P x → Q x) → IfFailure r P → IfFailure r Q
+if_failure (Ok (Ok y)) f p = tt
+if_failure (Ok (Err x)) f p = f x p
+if_failure (Err y) f p = tt
 
 module _ {T : Type 0} where
   -- a poll that ended was seen by whoever saw its record
@@ -120,16 +115,5 @@ module _ {T : Type 0} where
   saw_later (Shared s) t e old mid new p (log, g, q) = (log, record { before = g.before; since = g.since; after = prefix_on old mid g.before p g.after; is = g.is }, q)
 
   pub saw_on : {A X Y : Type 0} (ending : X → Ending) (r : Result (Result A X) Y) (c : CellView T) (t : ℕ) (old mid new : List Entry) → IsPrefix old mid
-      → IfFailed r (λ x. SawEnd c t (end_of t (ending x)) mid new) → IfFailed r (λ x. SawEnd c t (end_of t (ending x)) old new)
-  saw_on ending r c t old mid new p s = if_failed r (λ x k. saw_later c t (end_of t (ending x)) old mid new p k) s
-
-  -- what was seen is a beginning of a run, and so a run
-  ended_in_run : (c : CellView T) (t : ℕ) (e : Entry) (old new : List Entry) → (is_shared c ≡ true → IsRun Once most (reverse new)) → SawEnd c t e old new → EndedInRun c t e
-  ended_in_run (Owned x) t e old new run s = tt
-  ended_in_run (Shared s) t e old new run (log, g, (late, is)) =
-      (old, log, g, run_of_beginning Once most log late (subst (λ l. IsRun Once most (reverse l)) (sym is) (run refl)))
-
-  pub ended_on : {A X Y : Type 0} (ending : X → Ending) (r : Result (Result A X) Y) (c : CellView T) (t : ℕ) (old new : List Entry)
-      → (is_shared c ≡ true → IsRun Once most (reverse new)) → IfFailed r (λ x. SawEnd c t (end_of t (ending x)) old new)
-      → IfFailed r (λ x. EndedInRun c t (end_of t (ending x)))
-  ended_on ending r c t old new run s = if_failed r (λ x k. ended_in_run c t (end_of t (ending x)) old new run k) s
+      → IfFailure r (λ x. SawEnd c t (end_of t (ending x)) mid new) → IfFailure r (λ x. SawEnd c t (end_of t (ending x)) old new)
+  saw_on ending r c t old mid new p s = if_failure r (λ x k. saw_later c t (end_of t (ending x)) old mid new p k) s

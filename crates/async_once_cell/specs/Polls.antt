@@ -1,6 +1,6 @@
 -- What a poll of a cell's future answers and leaves, in the record too.
 use Rattle.std.specs.Prelude.{◌≡◌, ℕ, ⊤, Bool, true, false, List, [], ◌∷◌, Option, Some, None, Result, Ok, Err}
-use Rattle.std.specs.Prelude.{IfOk, IfSome, reverse}
+use Rattle.std.specs.Prelude.{IfErr, IfOk, IfSome, reverse}
 use Rattle.std.specs.Borrow.{Bor}
 use mathlib.Core.List.{IsPrefix}
 use Rattle.futures.specs.declared.task.Poll.{Poll}
@@ -12,14 +12,13 @@ use Rattle.async_once_cell.specs.declared.error.InitError.TheVariants.{Init, Mem
 use Rattle.async_once_cell.specs.declared.error.Refused.{Refused}
 use Rattle.async_once_cell.specs.declared.error.Refused.TheVariants.{Memory as NoMemory, Full as TooMany}
 use Rattle.once_machine.specs.Record.{Begin, DropBegin, DropEnd, Entry, Made, Once}
-use Rattle.once_machine.specs.Run.{IsRun}
 use Rattle.once_machine.specs.Tasks.{Holding, status}
 use Rattle.once_machine.specs.declared.step.Ending.TheVariants.{Dropped as EndDropped, Error as EndError}
 use Rattle.once_machine.specs.declared.step.Ending.TheVariants.{Full as EndFull, Memory as EndMemory}
 use Rattle.once_machine.specs.declared.step.Ending.TheVariants.{Pending as EndPending, Value as EndValue}
 use Rattle.once_machine.specs.declared.step.Ending.{Ending}
 use Rattle.async_once_cell.specs.Inits.{MayGive}
-use Rattle.async_once_cell.specs.Kept.{Grew, most}
+use Rattle.async_once_cell.specs.Kept.{Grew}
 use Rattle.async_once_cell.specs.Record.{gave_value}
 use Rattle.async_once_cell.specs.Walks.{IsOneCall, Spans, end_of}
 use Rattle.async_once_cell.specs.Tokens.{Agrees, IsSetIn}
@@ -126,11 +125,6 @@ abbrev pub IsHolderIn : {T : Type 0} → CellView T → ℕ → List Entry → T
 IsHolderIn (Owned x) t log = ⊥
 IsHolderIn (Shared s) t log = status Once t (reverse log) ≡ Holding
 
--- in some record that is a run a poll of the task t began, and it ended with this entry, which is the newest
-abbrev pub EndedInRun : {T : Type 0} → CellView T → ℕ → Entry → Type 0
-EndedInRun (Owned x) t e = ⊤
-EndedInRun (Shared s) t e = (old log : List Entry) × Spans t e old log × IsRun Once most (reverse log)
-
 -- the answer is a value
 abbrev pub IsValue : {A E : Type 0} → Poll (Result A E) → Type 0
 IsValue (Ready (Ok x)) = ⊤
@@ -168,6 +162,10 @@ Waits old new (Err x) = (old ≡ None) × (new ≡ None)
 -- what holds of the value that a wait answers, if it answers one
 abbrev pub IfValue : {T E X : Type 0} → Result (Result (Bor T) E) X → (T → Type 0) → Type 0
 IfValue r P = IfOk r (λ answer. IfOk answer (λ value. P value.now))
+
+-- what holds of the failure that a wait answers, if it answers one
+abbrev pub IfFailure : {A E X : Type 0} → Result (Result A E) X → (E → Type 0) → Type 0
+IfFailure r P = IfOk r (λ answer. IfErr answer P)
 
 -- the answer of a wait is a value
 abbrev pub IsValueAtOnce : {A E X : Type 0} → Result (Result A E) X → Type 0

@@ -5,9 +5,9 @@ pub use Rattle.async_once_cell.specs.Inner.Sides.{HasCopied, HasWoken, sided_tel
 pub use Rattle.async_once_cell.specs.Kept.{Grew, entries_of, most}
 pub use Rattle.async_once_cell.specs.Listed.{WakesTask, whose}
 pub use Rattle.async_once_cell.specs.Polls.{IsValue, ending_by, is_over, value_of, ending_of_refusal, ending_of_error}
-pub use Rattle.async_once_cell.specs.Polls.{IsMade, Answers, DidPoll, HasLeft, IfValue, IsValueAtOnce, Polls, PollsAs}
-pub use Rattle.async_once_cell.specs.Polls.{SpansIn, Waits, AnswersOwn, AnswersFit, AnswersLate, SawEnd}
-pub use Rattle.async_once_cell.specs.Polls.{EndedInRun, IsHolderIn, TellsGave}
+pub use Rattle.async_once_cell.specs.Polls.{IsMade, Answers, DidPoll, HasLeft, IfFailure, IfValue, IsValueAtOnce}
+pub use Rattle.async_once_cell.specs.Polls.{Polls, PollsAs, SpansIn, Waits, AnswersOwn, AnswersFit, AnswersLate}
+pub use Rattle.async_once_cell.specs.Polls.{SawEnd, IsHolderIn, TellsGave}
 pub use Rattle.async_once_cell.specs.Record.{EndsSet, IsSet, gave_value, PollsOnce, WasFilled}
 pub use Rattle.async_once_cell.specs.Refused.{own_error, message, message_of, kind_of, error_of}
 pub use Rattle.async_once_cell.specs.Tokens.{Gives, IsSetIn, Learns, Lends, Looks, Agrees, LendsMut}

@@ -1,6 +1,6 @@
 //! Futures of cells that go through an executor, which tells of their answers what the futures promise.
-ghost use Rattle.std.specs.Prelude.{◌≡◌, ◌*◌, ◌^◌, ◌<◌, List, [], ◌∷◌, IfErr, IfOk, true};
-ghost use Rattle.async_once_cell.specs.Prelude.{IsSetIn, about_of, is_shared};
+ghost use Rattle.std.specs.Prelude.{◌≡◌, ◌*◌, ◌^◌, ◌<◌, List, [], ◌∷◌, IfOk, true};
+ghost use Rattle.async_once_cell.specs.Prelude.{IfFailure, IsSetIn, about_of, is_shared};
 
 use crate::promise::TenTimes;
 use async_once_cell::{Known, Lazy, OnceCell, Refused};
@@ -57,7 +57,7 @@ where
     R: Wait + RandomSource + AllocGlobal,
     requires token_of_this_cell { token.now.cell ≡ cell.now }
     requires set { IsSetIn token.now.cell token.now.log }
-    ensures { IfOk result (λ answer. IfErr answer (λ _. ⊥)) }
+    ensures { IfFailure result (λ _. ⊥) }
 {
     let mut future = cell.get_or_init(rt, ready(5));
     future.learn(token);

@@ -15,16 +15,16 @@ type Brought<'a, R> = InitFuture<'a, u64, Ready<u64>, R>;
 
 /// If it was the future's own init that gave the value which is answered, this is one that the init may give.
 pub fn polled_own<'a, R>(
-    future: &mut Brought<'a, R>,
+    brought: &mut Brought<'a, R>,
     cx: &mut Context<'_>,
 ) -> Poll<Result<&'a u64, Refused>>
 where
     R: Wait + AllocGlobal,
-    requires unfinished { future.old.finished ≡ false }
-    ensures { future.new.gave ≡ true
-        → IfSome (value_of result) (λ value. IfSome future.old.init (λ init. init.0 ≡ Some value)) }
+    requires unfinished { brought.old.finished ≡ false }
+    ensures { brought.new.gave ≡ true
+        → IfSome (value_of result) (λ value. IfSome brought.old.init (λ init. init.0 ≡ Some value)) }
 {
-    future.poll(cx)
+    brought.poll(cx)
 }
 
 /// A poll by an executor, of a future that has seen that the cell is set: it answers the value.

@@ -1,8 +1,10 @@
 //! Waits, with a token and without.
-ghost use Rattle.std.specs.Prelude.{◌≡◌, IfErr, IfOk, None, Some, false};
-ghost use Rattle.async_once_cell.specs.Prelude.{EndedInRun, IfValue, IsSetIn, IsValueAtOnce, SawEnd, end_of};
-ghost use Rattle.async_once_cell.specs.Prelude.{ending_of_error};
+ghost use Rattle.std.specs.Prelude.{◌≡◌, ◌*◌, [], ◌∷◌, Err, IfErr, IfOk, None, Some, false, true};
+ghost use Rattle.async_once_cell.specs.Inits.{IfInit};
+ghost use Rattle.async_once_cell.specs.Prelude.{IfFailure, IfValue, IsSetIn, IsValueAtOnce, SawEnd, about_of, end_of};
+ghost use Rattle.async_once_cell.specs.Prelude.{ending_of_error, is_shared};
 
+use crate::promise::TenTimes;
 use async_once_cell::{InitError, Known, OnceCell, Parker, Refused, TryInitFuture};
 use futures::future::{Ready, ready};
 use std::alloc::AllocGlobal;
@@ -42,22 +44,30 @@ where
     requires unfinished { future.finished ≡ false }
     requires token_of_this_cell { token.old.cell ≡ future.cell }
     ensures set { IsValueAtOnce result → IsSetIn token.new.cell token.new.log }
-    ensures last { IfOk result (λ answer. IfErr answer (λ error. SawEnd future.entry.cell future.entry.task
-        (end_of future.entry.task (ending_of_error error)) token.old.log token.new.log)) }
+    ensures last { IfFailure result (λ error. SawEnd future.entry.cell future.entry.task
+        (end_of future.entry.task (ending_of_error error)) token.old.log token.new.log) }
 {
     future.wait_as_on(token, parker)
 }
 
-/// The same without a token: in some record that is a run, a poll of this future ended so.
+/// A wait without a token, by a caller that brings what its init answers. A value is what the cell promises, whoever
+/// gave that, and an error of an init is the caller's own. That a poll told it is not said: for that a wait needs a
+/// token.
 pub fn tried_alone<'a, R>(
-    future: Tried<'a, R>,
+    cell: &'a OnceCell<u64, TenTimes>,
+    rt: &'a R,
+    key: u64,
+    brought: Result<u64, u64>,
     parker: &mut Parker,
 ) -> io::Result<Result<&'a u64, InitError<u64>>>
 where
     R: Wait + AllocGlobal,
-    requires unfinished { future.finished ≡ false }
-    ensures { IfOk result (λ answer. IfErr answer (λ error. EndedInRun future.entry.cell future.entry.task
-        (end_of future.entry.task (ending_of_error error)))) }
+    requires shared { is_shared cell.now ≡ true }
+    requires about { about_of cell.now ≡ key ∷ [] }
+    requires fits { IfOk brought (λ value. value ≡ key * 10) }
+    ensures value { IfValue result (λ value. value ≡ key * 10) }
+    ensures error { IfFailure result (λ error. IfInit error (λ own. brought ≡ Err own)) }
 {
-    future.wait_on(parker)
+    let _ = key;
+    cell.get_or_try_init(rt, ready(brought)).wait_on(parker)
 }

@@ -1,12 +1,12 @@
 //! The future of a cell that owns its init.
-ghost use Rattle.std.specs.Prelude.{◌≡◌, ◌≢◌, ⊤, ℕ, IfErr, IfOk, IfSome, IsSome, List, None, Option, Result, false};
+ghost use Rattle.std.specs.Prelude.{◌≡◌, ◌≢◌, ⊤, ℕ, IfOk, IfSome, IsSome, List, None, Option, Result, false};
 ghost use Rattle.std.specs.Prelude.{◌↔◌, IsTrue, true, reverse};
 ghost use Rattle.async_once_cell.specs.Prelude.{Answers, DidPoll, HasLeft, IsValue, IsValueAtOnce, Polls, TellsGave};
 ghost use Rattle.async_once_cell.specs.Prelude.{PollsAs, SpansIn, Waits, ending_by, ending_of_refusal, value_of, IsSet};
 ghost use Rattle.async_once_cell.specs.Prelude.{PollsOnce, WasFilled, option_or, Bor, IfReady, OnPending, Covers};
 ghost use Rattle.async_once_cell.specs.Prelude.{Keeps, IsPrefix, Agrees, IsSetIn, about_of, is_shared, MayGive};
 ghost use Rattle.async_once_cell.specs.Prelude.{entries_of, most, end_of, SomebodyCalled, Once, AtEvery, IsRun};
-ghost use Rattle.async_once_cell.specs.Prelude.{NobodyForgotten, AnswersFit, AnswersLate, EndedInRun, SawEnd};
+ghost use Rattle.async_once_cell.specs.Prelude.{NobodyForgotten, AnswersFit, AnswersLate, IfFailure, SawEnd};
 ghost use Rattle.async_once_cell.specs.Prelude.{IsHolderIn};
 
 use crate::error::Refused;
@@ -198,8 +198,6 @@ where
     where
         R: RandomSource,
         requires unfinished { self.finished ≡ false }
-        ensures last { IfOk result (λ a. IfErr a (λ x. EndedInRun self.entry.cell self.entry.task
-            (end_of self.entry.task (ending_of_refusal x)))) }
         ensures fits { IfOk result (AnswersFit V.fits self.entry.cell) }
     {
         self.inner.wait()
@@ -216,8 +214,8 @@ where
         ensures log { IsPrefix token.old.log token.new.log }
         ensures late { IsSetIn token.old.cell token.old.log → IsValueAtOnce result }
         ensures set { IsValueAtOnce result → IsSetIn token.new.cell token.new.log }
-        ensures last { IfOk result (λ a. IfErr a (λ x. SawEnd self.entry.cell self.entry.task
-            (end_of self.entry.task (ending_of_refusal x)) token.old.log token.new.log)) }
+        ensures last { IfFailure result (λ x. SawEnd self.entry.cell self.entry.task
+            (end_of self.entry.task (ending_of_refusal x)) token.old.log token.new.log) }
         ensures fits { IfOk result (AnswersFit V.fits self.entry.cell) }
     {
         self.inner.wait_as(token)
@@ -226,8 +224,6 @@ where
     /// As [`Initializing::wait_on`].
     pub fn wait_on(self, parker: &mut Parker) -> io::Result<Result<&'a T, Refused>>
         requires unfinished { self.finished ≡ false }
-        ensures last { IfOk result (λ a. IfErr a (λ x. EndedInRun self.entry.cell self.entry.task
-            (end_of self.entry.task (ending_of_refusal x)))) }
         ensures fits { IfOk result (AnswersFit V.fits self.entry.cell) }
     {
         self.inner.wait_on(parker)
@@ -246,8 +242,8 @@ where
         ensures log { IsPrefix token.old.log token.new.log }
         ensures late { IsSetIn token.old.cell token.old.log → IsValueAtOnce result }
         ensures set { IsValueAtOnce result → IsSetIn token.new.cell token.new.log }
-        ensures last { IfOk result (λ a. IfErr a (λ x. SawEnd self.entry.cell self.entry.task
-            (end_of self.entry.task (ending_of_refusal x)) token.old.log token.new.log)) }
+        ensures last { IfFailure result (λ x. SawEnd self.entry.cell self.entry.task
+            (end_of self.entry.task (ending_of_refusal x)) token.old.log token.new.log) }
         ensures fits { IfOk result (AnswersFit V.fits self.entry.cell) }
     {
         self.inner.wait_as_on(token, parker)

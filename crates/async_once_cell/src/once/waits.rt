@@ -1,6 +1,6 @@
 //! The calls by which a thread waits for a value, and where it sleeps meanwhile.
-ghost use Rattle.std.specs.Prelude.{◌≡◌, IfErr, IfOk, false};
-ghost use Rattle.async_once_cell.specs.Prelude.{AnswersFit, EndedInRun, IsValueAtOnce, Waits, TellsOwn, IsPrefix};
+ghost use Rattle.std.specs.Prelude.{◌≡◌, IfOk, false};
+ghost use Rattle.async_once_cell.specs.Prelude.{AnswersFit, IfFailure, IsValueAtOnce, Waits, TellsOwn, IsPrefix};
 ghost use Rattle.async_once_cell.specs.Prelude.{IsSetIn, SawEnd, end_of};
 
 use super::{Initializing, Known};
@@ -30,15 +30,11 @@ where
     where
         R: RandomSource,
         requires unfinished { self.finished ≡ false }
-        ensures last { IfOk result (λ a. IfErr a (λ x. EndedInRun self.entry.cell self.entry.task
-            (end_of self.entry.task (X.ending x)))) }
         ensures own { IfOk result (TellsOwn I.may_fail X.ending self.entry.init) }
         ensures fits { IfOk result (AnswersFit V.fits self.entry.cell) }
     {
         let mut token = self.cell.token();
-        let answer = self.wait_as(&mut token);
-        token.is_run();
-        answer
+        self.wait_as(&mut token)
     }
 
     /// As [`wait`](Self::wait), and the token learns the value. A token that knows one gets it at once.
@@ -52,8 +48,8 @@ where
         ensures log { IsPrefix token.old.log token.new.log }
         ensures late { IsSetIn token.old.cell token.old.log → IsValueAtOnce result }
         ensures set { IsValueAtOnce result → IsSetIn token.new.cell token.new.log }
-        ensures last { IfOk result (λ a. IfErr a (λ x. SawEnd self.entry.cell self.entry.task
-            (end_of self.entry.task (X.ending x)) token.old.log token.new.log)) }
+        ensures last { IfFailure result (λ x. SawEnd self.entry.cell self.entry.task
+            (end_of self.entry.task (X.ending x)) token.old.log token.new.log) }
         ensures own { IfOk result (TellsOwn I.may_fail X.ending self.entry.init) }
         ensures fits { IfOk result (AnswersFit V.fits self.entry.cell) }
     {
@@ -67,15 +63,11 @@ where
     /// As [`wait`](Self::wait), by a parker that the caller keeps. `io::Error` says that there was no memory to wait.
     pub fn wait_on(self, parker: &mut Parker) -> io::Result<Result<&'a T, X>>
         requires unfinished { self.finished ≡ false }
-        ensures last { IfOk result (λ a. IfErr a (λ x. EndedInRun self.entry.cell self.entry.task
-            (end_of self.entry.task (X.ending x)))) }
         ensures own { IfOk result (TellsOwn I.may_fail X.ending self.entry.init) }
         ensures fits { IfOk result (AnswersFit V.fits self.entry.cell) }
     {
         let mut token = self.cell.token();
-        let answer = self.wait_as_on(&mut token, parker);
-        token.is_run();
-        answer
+        self.wait_as_on(&mut token, parker)
     }
 
     /// As [`wait_as`](Self::wait_as), by a parker that the caller keeps.
@@ -91,8 +83,8 @@ where
         ensures log { IsPrefix token.old.log token.new.log }
         ensures late { IsSetIn token.old.cell token.old.log → IsValueAtOnce result }
         ensures set { IsValueAtOnce result → IsSetIn token.new.cell token.new.log }
-        ensures last { IfOk result (λ a. IfErr a (λ x. SawEnd self.entry.cell self.entry.task
-            (end_of self.entry.task (X.ending x)) token.old.log token.new.log)) }
+        ensures last { IfFailure result (λ x. SawEnd self.entry.cell self.entry.task
+            (end_of self.entry.task (X.ending x)) token.old.log token.new.log) }
         ensures own { IfOk result (TellsOwn I.may_fail X.ending self.entry.init) }
         ensures fits { IfOk result (AnswersFit V.fits self.entry.cell) }
     {
