@@ -22,10 +22,6 @@ returns-clause-end g c =
     (subst (λ (e : Ending). Grew (end_of did.number e ∷ []) old did.log) (sym c.answer.ensures.ending)
     (subst (λ (l : List Entry). Grew (end_of did.number c.poll-ending.result ∷ []) l did.log) before c.poll-ending.ensures.polled.end)))
 
--- a Pending poll has asked for another, if no waker of its task was left
-pub returns-then-eq-clause-armed : goal.returns-then-eq-clause-armed
-returns-then-eq-clause-armed g c = search rules
-
 -- an init that answered is gone
 pub returns-clause-same : goal.returns-clause-same
 returns-clause-same g c = λ x m. absurd (subst (λ (i : Option g.row.I.Denot). MayGive g.I.Init.may_fail i x) c.answer.ensures.init m)
