@@ -8,8 +8,19 @@ use pagebook::Fits;
 use std::alloc::AllocGlobal;
 use std::sync::Wait;
 
-/// A poll. The newest entry of the record says that it ended as is answered.
-pub fn polled<T, W, R, V, S>(task: &mut Task<'_, '_, T, W, R, V>, side: &mut S) -> Ending
+/// What a task is to do.
+pub enum Call {
+    Poll,
+    Leave,
+}
+
+/// A poll or a drop, as the caller says. The newest entry of the record says that it ended as is answered. Only a poll
+/// asks that the init is there.
+pub fn called<T, W, R, V, S>(
+    task: &mut Task<'_, '_, T, W, R, V>,
+    side: &mut S,
+    call: Call,
+) -> Ending
 where
     W: TaskWaker + Drop,
     R: Wait + AllocGlobal,
@@ -18,25 +29,15 @@ where
     requires unfinished { task.old.finished ≡ false }
     requires its_own_side { (S.state side.old).number ≡ task.old.number }
     requires nobody_woken { (S.state side.old).woke ≡ [] }
-    requires init { IsReady (S.state side.old) }
+    requires init { call ≡ Call.Poll → IsReady (S.state side.old) }
     requires fits { GivesFit S.hands S.has_slot V.fits side.old task.old.cell }
     ensures { Grew (end_of task.new.number result ∷ []) task.old.log task.new.log }
 {
-    task.poll(side)
-}
-
-/// A drop. The newest entry of the record says that it is over.
-pub fn left<T, W, R, V, S>(task: &mut Task<'_, '_, T, W, R, V>, side: &mut S)
-where
-    W: TaskWaker + Drop,
-    R: Wait + AllocGlobal,
-    V: Fits<T>,
-    S: TaskSide<W, Value = T>,
-    requires unfinished { task.old.finished ≡ false }
-    requires its_own_side { (S.state side.old).number ≡ task.old.number }
-    requires nobody_woken { (S.state side.old).woke ≡ [] }
-    requires fits { GivesFit S.hands S.has_slot V.fits side.old task.old.cell }
-    ensures { Grew (end_of task.new.number Ending.Dropped ∷ []) task.old.log task.new.log }
-{
-    task.leave(side);
+    match call {
+        Call::Poll => task.poll(side),
+        Call::Leave => {
+            task.leave(side);
+            Ending::Dropped
+        }
+    }
 }
