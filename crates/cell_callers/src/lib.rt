@@ -7,6 +7,7 @@
 
 pub mod executors;
 pub mod holder;
+pub mod laws;
 pub mod lazy;
 pub mod leave;
 pub mod look;

@@ -85,11 +85,13 @@ pub fn set_value_calls_all()
 {}
 
 /// Nobody waits in vain: whenever a task waits, there is one that can go on. It is in a poll or a drop, or it rests
-/// with the right, or it waits and was woken. This asks, beside a run, that some task was woken if the cell is empty,
-/// which `replay` and each cell that threads share promise too.
+/// with the right, or it waits and was woken. This asks, beside a run, that some task was woken if the cell is empty.
+/// `replay` and each cell that threads share promise that of every moment, in the form that `promised` asks for.
 pub fn somebody_goes_on()
-    ensures { (kind : Kind) (limit u : ℕ) (h : List Entry) → IsRun kind limit h → SomebodyCalled kind h
+    ensures called { (kind : Kind) (limit u : ℕ) (h : List Entry) → IsRun kind limit h → SomebodyCalled kind h
         → status kind u h ≡ Waiting → (t : ℕ) × CanGoOn kind t h }
+    ensures promised { (kind : Kind) (limit u : ℕ) (h : List Entry) → IsRun kind limit h
+        → AtEvery (SomebodyCalled kind) h → status kind u h ≡ Waiting → (t : ℕ) × CanGoOn kind t h }
 {}
 
 /// A release without a value hands out one waker at most, and not those of all waiters. If some task waits and was not
