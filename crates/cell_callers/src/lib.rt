@@ -6,14 +6,11 @@
 #![tactic(auto)]
 
 pub mod executors;
-pub mod holder;
-pub mod laws;
 pub mod lazy;
 pub mod leave;
 pub mod look;
 pub mod owner;
 pub mod poll;
 pub mod promise;
-pub mod record;
 pub mod token;
 pub mod wait;

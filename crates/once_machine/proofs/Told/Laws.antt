@@ -115,11 +115,15 @@ module _ (limit n put : ℕ) (slot : Bool) (pages : List Page) (log : List Entry
   pub refusals_need_others_full : (t : ℕ) → log ≡ seen ++ End t Full ∷ late → (Since t (OtherActs Once t) h → ⊥) → Since t (AreWaiting Once limit t) h
   refusals_need_others_full t is = full_waits Once limit t h (next_run (End t Full) is)
 
-  -- whenever a task waits, one can go on
-  pub somebody_goes_on : (u : ℕ) → log ≡ seen ++ late → status Once u h ≡ Waiting → (t : ℕ) × CanGoOn Once t h
-  somebody_goes_on u is s =
+  -- whenever a task waits, one can go on, if some task was woken then
+  pub somebody_goes_on_called : SomebodyCalled Once h → (u : ℕ) → log ≡ seen ++ late → status Once u h ≡ Waiting → (t : ℕ) × CanGoOn Once t h
+  somebody_goes_on_called called u is s = goes_on Once limit u h (seen_run is) called s
+
+  -- and so it was at every moment
+  pub somebody_goes_on_promised : (u : ℕ) → log ≡ seen ++ late → status Once u h ≡ Waiting → (t : ℕ) × CanGoOn Once t h
+  somebody_goes_on_promised u is s =
       let called = every_of_beginning (SomebodyCalled Once) seen late (subst (λ l. AtEvery (SomebodyCalled Once) (reverse l)) is (somebody_called limit n put slot pages log some book)) in
-      goes_on Once limit u h (seen_run is) (at_the_newest (SomebodyCalled Once) h called) s
+      somebody_goes_on_called (at_the_newest (SomebodyCalled Once) h called) u is s
 
   -- a release without a value hands out one waker at most
   pub failed_release_calls_one_at_most_one : (t : ℕ) (X : List ℕ) → log ≡ seen ++ Free t X ∷ late → length X ≤ 1
