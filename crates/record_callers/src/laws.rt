@@ -48,7 +48,7 @@ where
         → OtherHolds Once future.new.task h ⊎ ((last_call Once future.new.task h).ran ≡ Some RanPending) }
 {
     let pending = future.poll(cx).is_pending();
-    future.is_run();
+    InitFuture::is_run(future);
     pending_has_a_reason();
     pending
 }
