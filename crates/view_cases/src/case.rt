@@ -34,8 +34,8 @@ pub struct Case<'t> {
     program: Program,
     words: Vec<&'t str>,
     input: Vec<u8>,
-    // How the first read fails, and how each write.
-    read: Option<ErrorKind>,
+    // How a read fails, and how many come before it; and how each write fails.
+    read: Option<(ErrorKind, u64)>,
     write: Option<ErrorKind>,
     /// What has to be left.
     pub wanted: Wanted<'t>,
@@ -134,16 +134,20 @@ impl<'t> Case<'t> {
         }
     }
 
-    // Takes what fails: `read KIND` or `write KIND`.
+    // Takes what fails: `read KIND`, `read KIND NUMBER` or `write KIND`.
     fn fail(&mut self, line: &str) -> bool {
-        let (stream, kind) = line.split_once(' ').unwrap_or((line, ""));
-        let kind = kind_of(kind);
+        let (stream, failure) = line.split_once(' ').unwrap_or((line, ""));
         match stream {
-            "read" => self.read = kind,
-            "write" => self.write = kind,
-            _ => return false,
+            "read" => {
+                self.read = read_failure(failure);
+                self.read.is_some()
+            }
+            "write" => {
+                self.write = kind_of(failure);
+                self.write.is_some()
+            }
+            _ => false,
         }
-        kind.is_some()
     }
 
     /// Runs the program.
@@ -164,9 +168,18 @@ fn add(text: &mut String, more: Option<String>) -> bool {
     }
 }
 
+// How a read fails, and how many come before it.
+fn read_failure(text: &str) -> Option<(ErrorKind, u64)> {
+    let (kind, number) = text.split_once(' ').unwrap_or((text, "1"));
+    let number: u64 = number.parse().ok()?;
+    Some((kind_of(kind)?, number.checked_sub(1)?))
+}
+
 fn kind_of(word: &str) -> Option<ErrorKind> {
     match word {
         "reset" => Some(ErrorKind::ConnectionReset),
+        "timeout" => Some(ErrorKind::TimedOut),
+        "interrupted" => Some(ErrorKind::Interrupted),
         "memory" => Some(ErrorKind::OutOfMemory),
         "full" => Some(ErrorKind::StorageFull),
         "pipe" => Some(ErrorKind::BrokenPipe),

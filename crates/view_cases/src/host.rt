@@ -106,18 +106,28 @@ impl Env for Host<'_> {
     }
 }
 
-/// A standard input that gives a text, and fails at its first read if it is to.
+// How many bytes a standard input gives at a time before it fails.
+const PIECE: usize = 7;
+
+/// A standard input that gives a text, and fails at one of its reads if it is to.
 #[derive(Drop)]
 pub struct Given<'a> {
     pub text: &'a [u8],
-    pub failure: Option<ErrorKind>,
+    /// How a read fails, and how many come before it.
+    pub failure: Option<(ErrorKind, u64)>,
 }
 
 impl Read for Given<'_> {
     fn read(&mut self, buf: &mut [u8]) -> io::Result<usize> {
-        match self.failure {
-            Some(kind) => Err(io::Error::from(kind)),
-            None => self.text.read(buf),
-        }
+        let Some((kind, before)) = self.failure else {
+            return self.text.read(buf);
+        };
+        let Some(before) = before.checked_sub(1) else {
+            self.failure = None;
+            return Err(io::Error::from(kind));
+        };
+        self.failure = Some((kind, before));
+        let count = buf.len().min(PIECE);
+        self.text.read(&mut buf[..count])
     }
 }

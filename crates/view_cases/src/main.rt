@@ -9,7 +9,9 @@
 //! - `< TEXT`: more of its input. A `/` ends a line of that, here and wherever else TEXT stands below.
 //! - `<* FIRST LAST TEXT`: the text once for each number of these, which takes the place of `#`.
 //! - `<x BYTE ..`: more of its input by bytes, in two hexadecimal digits each.
-//! - `! read KIND`, `! write KIND`: its first read, or each write, fails. KIND is `reset`, `memory`, `full` or `pipe`.
+//! - `! read KIND`, `! read KIND NUMBER`, `! write KIND`: its first read, the read with this number, or each write
+//!   fails. A read before that gives seven bytes. KIND is `reset`, `timeout`, `interrupted`, `memory`, `full` or
+//!   `pipe`.
 //! - `= STATUS`: with which status it ends, if that is not 0.
 //! - `> TEXT`, `>* FIRST LAST TEXT`: more of what is printed, and nothing else is.
 //! - `2> TEXT`: more of what is said on standard error, and nothing else is.
@@ -39,8 +41,9 @@ use std::io;
 use std::process::ExitCode;
 
 // The texts of cases, and those of schedules.
-const TEXTS: [&str; 14] = [
+const TEXTS: [&str; 15] = [
     "programs",
+    "reads",
     "first_lines",
     "scripts",
     "shown",
