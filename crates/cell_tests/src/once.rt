@@ -1,6 +1,5 @@
 //! What a `OnceCell` does on one thread.
 
-mod crowd;
 mod drops;
 mod inside;
 mod kept;

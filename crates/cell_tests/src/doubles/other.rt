@@ -1,6 +1,6 @@
 //! Another future of a cell, which an init polls or drops when it is polled or dropped itself.
 
-use crate::doubles::expected::is_shown;
+use crate::doubles::expected::cell_shows;
 use crate::doubles::poll::polled;
 use crate::doubles::stub::{Stub, count};
 use async_once_cell::OnceCell;
@@ -38,16 +38,17 @@ pub const LATER: Later = Later { was_polled: false };
 pub struct Other<'a, R: Wait + AllocGlobal> {
     rt: &'a R,
     cell: &'a OnceCell<u64>,
-    task: &'a MockTask,
+    // None polls as if there were no future.
+    task: Option<&'a MockTask>,
     future: Mutex<Option<InitFuture<'a, u64, Later, R>>>,
     /// What its last poll answered.
     pub heard: Cell<Option<Reply>>,
-    /// Whether the cell's Debug text was what an init wanted that looked at it.
+    /// Whether the cell showed what an init wanted that looked at it.
     pub found: Cell<Option<bool>>,
 }
 
 impl<'a, R: Wait + AllocGlobal> Other<'a, R> {
-    pub fn new(cell: &'a OnceCell<u64>, rt: &'a R, task: &'a MockTask) -> Self {
+    pub fn new(cell: &'a OnceCell<u64>, rt: &'a R, task: Option<&'a MockTask>) -> Self {
         Other {
             rt,
             cell,
@@ -65,8 +66,8 @@ impl<'a, R: Wait + AllocGlobal> Other<'a, R> {
 
     /// Polls it, and answers what it did.
     pub fn poll(&self) -> Option<Reply> {
-        let mut future = self.take_out()?;
-        let reply = polled(self.task, &mut future);
+        let (task, mut future) = (self.task?, self.take_out()?);
+        let reply = polled(task, &mut future);
         *self.future.lock(self.rt) = Some(future);
         self.heard.set(Some(reply));
         Some(reply)
@@ -89,13 +90,13 @@ impl<'a, R: Wait + AllocGlobal> Other<'a, R> {
             "drop" => drop(self.take_out()),
             "visit" => self.visit(),
             "" => {}
-            text => self.found.set(Some(is_shown(self.cell, text))),
+            words => self.found.set(Some(cell_shows(self.cell, words))),
         }
     }
 }
 
 /// An init that does as its stub says, and may `poll` the other future of its cell, `drop` it, or `visit` it, which is
-/// both. Every other text is what the cell's Debug text is to be then. It looks without memory.
+/// both. All other words are what the cell is to show then. It looks without memory.
 pub struct Meddling<'o, 'a, O: Copy, R: Wait + AllocGlobal> {
     other: &'o Other<'a, R>,
     stub: &'o Stub<O>,

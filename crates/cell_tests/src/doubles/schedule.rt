@@ -1,41 +1,45 @@
-//! Schedules: futures of cells that are made, polled and dropped, line by line.
+//! Schedules: futures of cells that are made, polled and dropped, in orders. A line has one, or several with `; `
+//! between.
 //!
-//! There is a `OnceCell`, and a `Lazy` with a future of its own. `init T` and `try T` make future T by
-//! `get_or_init` and `get_or_try_init`, `get T`, `unpin T` and `into T` by `get`, `get_unpin` and
-//! `into_future` of the `Lazy`. `looks T TEXT` makes one whose init looks at its cell when it is
-//! dropped, and `found` says whether that showed TEXT. `drop T` and `forget T` put an end to future T, and `leave T`
-//! calls its `leave`.
+//! There is a `OnceCell`, and a `Lazy` with a future of its own. `init T` and `try T` make future T by `get_or_init`
+//! and `get_or_try_init`, `get T`, `unpin T` and `into T` by `get`, `get_unpin` and `into_future` of the `Lazy`.
+//! `looks T SHOWN` makes one whose init looks at its cell when it is dropped, and `found` says whether that showed
+//! SHOWN. `drop T` and `forget T` put an end to future T, and `leave T` calls its `leave`.
 //!
 //! `poll T A` polls it by task T, `poll T A W` by task W; if its init is polled, it answers A: `v` with a value, `e`
 //! with an error, `p` if it is Pending and asks for another poll of its task, which counts as a wake, or `s` if it is
-//! Pending and asks for nothing. `show` and `lazy` are the Debug texts of the cells, `future T` that of a future, and
-//! `inits` how often inits were polled and dropped. After `starve` every request for memory is refused while a line is
-//! obeyed. After `=>` stands what the poll answered, whether the future is done, and the tasks that were woken since
-//! the line before.
+//! Pending and asks for nothing. `is SHOWN` and `lazy SHOWN` say what the cells show, in the words of `expected`,
+//! `future T` has the Debug text of a future, and `inits` how often inits were polled and dropped. After `starve` every
+//! request for memory is refused while an order is obeyed. After `=>` stands what the poll answered, whether the future
+//! is done, and the tasks that were woken since the order before.
 //!
 //! Task 1 has one other future of the `OnceCell`, whose init is Pending once and then gives 4. `other` polls it.
 //! `uses T PLAN` makes a future as `try T` does, whose init does something to the other one, as `Meddling` says: a word
-//! for each poll, and after `; ` one for its drop. Then `found` has what the other answered at last.
+//! for each poll, and after `/ ` one for its drop. Then `found` has what the other answered at last.
 //!
 //! `look` has what the `OnceCell` lends and answers to a new token, and what such a token knows before and after.
 //! `ask A` polls a new future once with a new token, by task 0, and `know A` with one that looked before. Then comes
-//! what the token knows, and how many inits were dropped before that future was. `lazy` has what `try_get` answers
-//! before the text.
+//! what the token knows, and how many inits were dropped before that future was.
 //!
-//! `owner` stands before a call of the owner, and puts an end to all futures: `take` and `write N` on the `OnceCell`,
-//! and `with N`, `from N` and `default` put a new one in its place; `lend N` writes the value of the `Lazy`, and
-//! `replace N` and `renew` put a new one in its place. After `=>` stands what was there. `end`, the last line, has what
-//! `into_inner` of both cells answers.
+//! A line that begins with `owner` has a call of the owner, and puts an end to all futures: `take` and `write N` on the
+//! `OnceCell`, and `with N`, `from N` and `default` put a new one in its place; `lend N` writes the value of the
+//! `Lazy`, and `replace N` and `renew` put a new one in its place. After `=>` stands what was there. The last line may
+//! be `end A`, `apart A` or `gone`. It has the values that come out of the cells, by `into_inner` or by `into_parts`,
+//! or none if the `Lazy` is dropped, and what `inits` says then. A future that comes out is polled once by task 0, and
+//! answers A.
 
 mod little;
 mod refusals;
 mod scene;
 
+use crate::doubles::expected::{cell_shows, lazy_shows};
 use crate::doubles::made::{Made, text_of};
 use crate::doubles::other::Other;
 use crate::doubles::same;
 use crate::doubles::stub::Init;
 use async_once_cell::{Lazy, OnceCell};
+use futures::task::Poll;
+use futures::test::MockTask;
 pub use little::run_in_little;
 pub use refusals::refuse_each;
 use scene::{Inits, Outcome, Scene, Tasks};
@@ -63,22 +67,36 @@ struct Schedule<'o, 'a, 'i, R: Wait + AllocGlobal> {
     futures: Vec<Option<Made<'o, 'a, 'i, R>>>,
     // Whether every request for memory is refused while a line is obeyed.
     starves: bool,
-    // The number that `n` stands for.
+    // The number that `n` stands for, and whether it is the last.
     turn: usize,
+    is_last: bool,
 }
 
 impl<'o, 'a: 'o, 'i: 'o, R: Wait + AllocGlobal> Schedule<'o, 'a, 'i, R> {
     // One with a place for a future of each task, all empty.
-    fn begun(scene: Scene<'o, 'a, 'i, R>) -> Self {
-        let mut futures = Vec::new(scene.rt.alloc());
-        for _ in 0..scene.tasks.tasks.len() {
+    fn begun(
+        rt: &'o R,
+        (cell, lazy): (&'o OnceCell<u64>, &'o Lazy<u64, Init<'i, u64>>),
+        other: &'o Other<'a, R>,
+        (inits, tasks): (&'i Inits, &'o Tasks),
+    ) -> Self {
+        let mut futures = Vec::new(rt.alloc());
+        for _ in &tasks.tasks {
             let _ = futures.push(None);
         }
         Schedule {
-            scene,
+            scene: Scene {
+                rt,
+                cell,
+                lazy,
+                other,
+                inits,
+                tasks,
+            },
             futures,
             starves: false,
             turn: 0,
+            is_last: true,
         }
     }
 
@@ -94,7 +112,9 @@ impl<'o, 'a: 'o, 'i: 'o, R: Wait + AllocGlobal> Schedule<'o, 'a, 'i, R> {
     fn obey(&mut self, line: &'o str) -> Result<String, AllocError> {
         let (word, rest) = line.split_once(' ').unwrap_or((line, ""));
         match word {
-            "show" => self.scene.shown(),
+            "is" if cell_shows(self.scene.cell, rest) => self.scene.written(Outcome::Obeyed),
+            "is" => self.scene.shown(),
+            "lazy" if lazy_shows(self.scene.lazy, rest) => self.scene.written(Outcome::Obeyed),
             "lazy" => self.scene.shown_lazy(),
             "inits" => self.scene.counted(),
             "found" => self.scene.found(),
@@ -118,7 +138,10 @@ impl<'o, 'a: 'o, 'i: 'o, R: Wait + AllocGlobal> Schedule<'o, 'a, 'i, R> {
         let hoarded = hoarded(self.scene.rt.alloc(), self.starves)?;
         let outcome = self.act(word, rest);
         drop(hoarded);
-        self.scene.written(outcome)
+        if self.is_last {
+            return self.scene.written(outcome);
+        }
+        format!(in self.scene.rt.alloc(); "{outcome}")
     }
 
     fn act(&mut self, word: &str, rest: &'o str) -> Outcome {
@@ -136,7 +159,11 @@ impl<'o, 'a: 'o, 'i: 'o, R: Wait + AllocGlobal> Schedule<'o, 'a, 'i, R> {
             },
             "leave" => self.leave(number),
             "forget" => self.forget(number),
-            _ => self.make(number, word, rest),
+            "drop" => self.put(number, None),
+            _ => match self.scene.made(word, rest) {
+                Some(made) => self.put(number, Some(made)),
+                None => Outcome::Unreadable,
+            },
         }
     }
 
@@ -160,9 +187,8 @@ impl<'o, 'a: 'o, 'i: 'o, R: Wait + AllocGlobal> Schedule<'o, 'a, 'i, R> {
         }
     }
 
-    // Makes a future in the place of the one with this number, or drops that.
-    fn make(&mut self, number: usize, word: &str, plan: &'o str) -> Outcome {
-        let made = self.scene.made(word, plan);
+    // Puts a future, or none, in the place of the one with this number, which is dropped.
+    fn put(&mut self, number: usize, made: Option<Made<'o, 'a, 'i, R>>) -> Outcome {
         match self.futures.get_mut(number) {
             Some(future) => {
                 *future = made;
@@ -193,16 +219,20 @@ impl<'o, 'a: 'o, 'i: 'o, R: Wait + AllocGlobal> Schedule<'o, 'a, 'i, R> {
 impl<'o, 'a: 'o, 'i: 'o, R: Wait + AllocGlobal + Abort> Schedule<'o, 'a, 'i, R> {
     fn run(&mut self, name: &str, lines: &'o str) {
         for line in lines.lines() {
-            self.run_line(name, line);
+            for order in line.split("; ") {
+                self.run_order(name, order);
+            }
         }
     }
 
-    fn run_line(&mut self, name: &str, line: &'o str) {
-        let (order, wanted) = line.split_once(" => ").unwrap_or((line, "so"));
+    // The tasks that an order wakes are looked at after its last turn.
+    fn run_order(&mut self, name: &str, order: &'o str) {
+        let (order, wanted) = order.split_once(" => ").unwrap_or((order, "so"));
         let (from, to, order) = turns_in(order);
-        same(self.scene.rt, line, from < to, true);
+        same(self.scene.rt, order, from < to, true);
         for turn in from..to {
             self.turn = turn;
+            self.is_last = turn.saturating_add(1) == to;
             let text = self.obey(order);
             compare(self.scene.rt, (name, order), text, wanted);
         }
@@ -235,27 +265,18 @@ fn compare<R: AllocGlobal + Abort>(
     assert_eq!(rt; text.as_str(), wanted, "{order} in {name}");
 }
 
-// Runs the lines between two calls of the owner.
+// Runs the orders between two calls of the owner.
 fn run_part<'s, 'i: 's, R: Wait + AllocGlobal + Abort>(
     rt: &'s R,
     (cell, lazy): (&'s OnceCell<u64>, &'s Lazy<u64, Init<'i, u64>>),
     (inits, tasks): (&'i Inits, &'s Tasks),
-    (name, lines): (&str, &'s str),
+    (name, parts): (&str, [&'s str; 2]),
 ) {
-    let Some(task) = tasks.tasks.get(1) else {
-        return same(rt, name, "no task", "a task");
-    };
-    let other = Other::new(cell, rt, task);
-    let scene = Scene {
-        rt,
-        cell,
-        lazy,
-        other: &other,
-        inits,
-        tasks,
-    };
-    let mut schedule = Schedule::begun(scene);
-    schedule.run(name, lines);
+    let other = Other::new(cell, rt, tasks.tasks.get(1));
+    let mut schedule = Schedule::begun(rt, (cell, lazy), &other, (inits, tasks));
+    for lines in parts {
+        schedule.run(name, lines);
+    }
 }
 
 // Has the owner of a cell write the value: what was lent before.
@@ -312,13 +333,38 @@ fn owned<'i>(
     text
 }
 
-// What the cells have in the end.
+// What comes out of a lazy cell that is taken apart: its value, or what its future answers to the next poll.
+fn apart(lazy: Lazy<u64, Init<'_, u64>>, task: Option<&MockTask>) -> Option<u64> {
+    match lazy.into_parts() {
+        Ok(value) => Some(value),
+        Err(Some(mut future)) => match task?.poll(&mut future) {
+            Poll::Ready(value) => Some(value),
+            Poll::Pending => None,
+        },
+        Err(None) => None,
+    }
+}
+
+// What the cells have in the end, and what inits went through then.
 fn left(
     alloc: Global,
     cell: OnceCell<u64>,
     lazy: Lazy<u64, Init<'_, u64>>,
+    (inits, tasks): (&Inits, &Tasks),
+    order: &str,
 ) -> Result<String, AllocError> {
-    text_of(alloc, &[cell.into_inner(), lazy.into_inner()])
+    let (word, answer) = order.split_once(' ').unwrap_or((order, ""));
+    inits.tell(answer);
+    let own = match word {
+        "apart" => apart(lazy, tasks.tasks.first()),
+        "gone" => {
+            drop(lazy);
+            None
+        }
+        _ => lazy.into_inner(),
+    };
+    let values = [cell.into_inner(), own];
+    format!(in alloc; "{values:?}, {inits}")
 }
 
 // Runs a schedule in parts, between which the owner calls. Before the first the owner does nothing: its head stands
@@ -332,10 +378,11 @@ fn run_parts<'i, R: Wait + AllocGlobal + Abort>(
 ) {
     for part in text.split("\nowner ") {
         let (line, lines) = part.split_once('\n').unwrap_or((part, ""));
-        let (order, wanted) = line.split_once(" => ").unwrap_or((line, "None"));
+        let (call, rest) = line.split_once("; ").unwrap_or((line, ""));
+        let (order, wanted) = call.split_once(" => ").unwrap_or((call, "None"));
         let found = owned(rt.alloc(), cell, lazy, (inits, tasks), order);
         compare(rt, (name, order), found, wanted);
-        run_part(rt, (&*cell, &*lazy), (inits, tasks), (name, lines));
+        run_part(rt, (&*cell, &*lazy), (inits, tasks), (name, [rest, lines]));
     }
 }
 
@@ -345,22 +392,34 @@ where
     R: Wait + AllocGlobal + RandomSource + Abort,
 {
     let (name, lines) = text.split_once('\n').unwrap_or((text, ""));
-    let (parts, end) = text.split_once("\nend => ").unwrap_or((text, ""));
+    let (parts, end) = ended(text);
     let Ok(tasks) = Tasks::new(rt, most(lines)) else {
         return same(rt, name, "no tasks", "tasks");
     };
     let inits = Inits::new();
     let (mut cell, mut lazy) = (OnceCell::new(), Lazy::new(inits.sure.init()));
     run_parts(rt, &mut cell, &mut lazy, (&inits, &tasks), (name, parts));
-    let left = left(rt.alloc(), cell, lazy);
+    let (order, wanted) = end.split_once(" => ").unwrap_or(("", ""));
+    let left = left(rt.alloc(), cell, lazy, (&inits, &tasks), order);
     if !end.is_empty() {
-        compare(rt, (name, "end"), left, end);
+        compare(rt, (name, order), left, wanted);
+    }
+}
+
+// How the last line of a schedule may begin, that says how the cells end.
+const ENDS: [&str; 3] = ["end ", "apart ", "gone "];
+
+// The lines before the last, and that, if it says how the cells end.
+fn ended(text: &str) -> (&str, &str) {
+    match text.rsplit_once('\n') {
+        Some((parts, end)) if ENDS.iter().any(|word| end.starts_with(*word)) => (parts, end),
+        _ => (text, ""),
     }
 }
 
 /// Runs the schedules of a text, each over cells of its own. An empty line stands between two, and `# NAME` or
-/// `# NAME: WHAT IT IS ABOUT` before the lines of each. Each line must lead to what stands after its `=>`, or wake
-/// nobody if nothing stands there. `A..B * ` before a line stands for such lines at the numbers from A to B - 1,
+/// `# NAME: WHAT IT IS ABOUT` before the lines of each. Each order must lead to what stands after its `=>`, or wake
+/// nobody if nothing stands there. `A..B * ` before an order stands for such orders at the numbers from A to B - 1,
 /// by which each `n` is read, and `N * ` for N of them.
 pub fn run<R>(rt: &R, schedules: &str)
 where

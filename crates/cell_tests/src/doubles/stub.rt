@@ -39,13 +39,6 @@ impl<O: Copy> Stub<O> {
         }
     }
 
-    /// For inits that have this answer at once.
-    pub fn giving(answer: O) -> Self {
-        let stub = Stub::new();
-        stub.answer.set(Some(answer));
-        stub
-    }
-
     /// An init that does as the stub says.
     pub fn init(&self) -> Init<'_, O> {
         count(&self.made);

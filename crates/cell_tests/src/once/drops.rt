@@ -2,11 +2,10 @@
 
 use crate::doubles::value::{Makes, Value};
 use crate::doubles::{same, three_tasks};
-use async_once_cell::OnceCell;
-use async_once_cell::once::InitFuture;
+use async_once_cell::{Lazy, OnceCell};
 use futures::future::pending;
 use futures::test::MockTask;
-use std::alloc::{AllocError, AllocGlobal};
+use std::alloc::AllocGlobal;
 use std::cell::Cell;
 use std::sync::Wait;
 use std::test::Fail;
@@ -47,6 +46,17 @@ fn ended<R: Wait + AllocGlobal>(rt: &R, task: &MockTask, act: &str) -> (bool, [u
     (is_answered, [before, between, drops.get()])
 }
 
+// The same of a lazy cell whose value is lent.
+fn ended_lazily<R: Wait + AllocGlobal>(rt: &R, task: &MockTask) -> (bool, [u64; 3]) {
+    let drops = Cell::new(0);
+    let lazy = Lazy::new(Makes { drops: &drops });
+    let before = drops.get();
+    let is_ready = task.poll(&mut lazy.get(rt)).is_ready();
+    let between = drops.get();
+    drop(lazy);
+    (is_ready, [before, between, drops.get()])
+}
+
 /// A value lives until its owner takes it. One that nobody takes lives as long as its cell, also if its owner may write
 /// it.
 #[test]
@@ -61,18 +71,13 @@ fn values_dropped_once(rt: HostRuntime) -> Result<(), Fail> {
     for (act, wanted) in rows {
         same(&rt, act, ended(&rt, &task, act), (true, wanted));
     }
+    same(
+        &rt,
+        "lent by a lazy cell",
+        ended_lazily(&rt, &task),
+        (true, [0, 0, 1]),
+    );
     Ok(())
-}
-
-// Polls a future with this ration of memory. Whether there was memory for the ration.
-fn poll_rationed<'d, R: Wait + AllocGlobal>(
-    task: &MockTask,
-    future: &mut InitFuture<'_, Value<'d>, Makes<'d>, R>,
-    rations: &mut Rations,
-) -> Result<(), AllocError> {
-    let held = rations.begin()?;
-    let _ = task.poll(future);
-    rations.end(held)
 }
 
 // A future waits while another holds, with this ration of memory. The other is dropped, and the one that waits,
@@ -87,7 +92,11 @@ fn is_made_after<'d, R: Wait + AllocGlobal>(
     let mut holder = cell.get_or_init(rt, pending());
     let is_held = tasks[0].poll(&mut holder).is_pending();
     let mut waiter = cell.get_or_init(rt, Makes { drops });
-    let is_rationed = poll_rationed(&tasks[1], &mut waiter, rations).is_ok();
+    let Ok(held) = rations.begin() else {
+        return false;
+    };
+    let _ = tasks[1].poll(&mut waiter);
+    let is_rationed = rations.end(held).is_ok();
     drop(holder);
     if !waiter.is_finished() {
         let _ = tasks[1].poll(&mut waiter);

@@ -1,7 +1,7 @@
 //! What a cell that is set shows while the init of a future is dropped that waits and leaves.
 ghost use Rattle.std.specs.Prelude.{◌≡◌, IfSome, false};
 
-use crate::doubles::expected::is_shown;
+use crate::doubles::expected::cell_shows;
 use crate::doubles::other::{Meddling, Other};
 use crate::doubles::poll::heard;
 use crate::doubles::same;
@@ -17,12 +17,7 @@ use std::sync::Wait;
 use std::test::Fail;
 
 // The value is set, and the future that leaves is counted still.
-const COUNTED: &str =
-    "OnceCell { value: Some(2), inner: Inner { ready: true, quick_init: false, refcount: 1, queue: true } }";
-
-// Nobody is counted any more.
-const LEFT: &str =
-    "OnceCell { value: Some(2), inner: Inner { ready: true, quick_init: false, refcount: 0, queue: false } }";
+const COUNTED: &str = "v2 1 queue";
 
 // An init that looks at its cell when it is dropped, and else does as its stub says.
 type Looking<'o, 'a, R> = Meddling<'o, 'a, u64, R>;
@@ -48,7 +43,7 @@ fn waiter<'s, 'o, 'a, R: Wait + AllocGlobal>(
     Some(waiter)
 }
 
-// What a poll with a token that knows the value answers to a future that waits, whose init then looks for this text.
+// What a poll with a token that knows the value answers to a future that waits, whose init then looks for this.
 fn left_by_a_poll<'o, R: Wait + AllocGlobal>(
     rt: &R,
     (cell, text): (&OnceCell<u64>, &'o str),
@@ -68,7 +63,7 @@ fn found<'s, R: Wait + AllocGlobal>(
     task: &'s MockTask,
     stub: &Stub<u64>,
 ) -> (Option<Reply>, Option<bool>) {
-    let other = Other::new(cell, rt, task);
+    let other = Other::new(cell, rt, Some(task));
     let told = task.enter(|cx| left_by_a_poll(rt, (cell, COUNTED), (&other, stub), cx));
     (told, other.found.get())
 }
@@ -88,7 +83,7 @@ fn init_dropped_before_a_knowing_poll_leaves(rt: HostRuntime) -> Result<(), Fail
     same(
         &rt,
         "left",
-        (is_shown(&cell, LEFT), stub.counts()),
+        (cell_shows(&cell, "v2"), stub.counts()),
         (true, (0, 1)),
     );
     Ok(())

@@ -1,6 +1,6 @@
 //! Two futures that find no queue at the door. One puts its queue there while the other asks for memory for its own.
 
-use crate::doubles::expected::is_shown;
+use crate::doubles::expected::cell_shows;
 use crate::doubles::other::{LATER, Other};
 use crate::doubles::poll::polled;
 use crate::doubles::{same, three_tasks};
@@ -32,13 +32,6 @@ impl<R: Wait + AllocGlobal> Alloc for Delayed<'_, '_, R> {
     }
 }
 
-const PENDING: Option<Reply> = Some(Reply::Pending);
-
-const VALUE: Option<Reply> = Some(Reply::Value(4));
-
-const FILLED: &str =
-    "OnceCell { value: Some(4), inner: Inner { ready: true, quick_init: false, refcount: 0, queue: false } }";
-
 // What three futures of a cell answer twice: the holder, one whose queue comes second, and the one whose queue it
 // finds. And whether nothing is left at the cell.
 fn met_at_the_door<'s, R: Wait + AllocGlobal>(
@@ -47,7 +40,7 @@ fn met_at_the_door<'s, R: Wait + AllocGlobal>(
 ) -> ([Option<Reply>; 6], bool) {
     let cell = OnceCell::new();
     let mut holder = cell.get_or_init(rt, LATER);
-    let other = Other::new(&cell, rt, three);
+    let other = Other::new(&cell, rt, Some(three));
     let delayed = Delayed {
         alloc: rt.alloc(),
         other: &other,
@@ -61,8 +54,12 @@ fn met_at_the_door<'s, R: Wait + AllocGlobal>(
         Some(polled(two, &mut second)),
         other.poll(),
     ];
-    (replies, is_shown(&cell, FILLED))
+    (replies, cell_shows(&cell, "v4"))
 }
+
+const PENDING: Option<Reply> = Some(Reply::Pending);
+
+const VALUE: Option<Reply> = Some(Reply::Value(4));
 
 const MET: [Option<Reply>; 6] = [PENDING, PENDING, PENDING, VALUE, VALUE, VALUE];
 

@@ -2,7 +2,7 @@
 
 use super::scene::{Inits, Scene, Tasks};
 use super::{Schedule, most, turns_in};
-use crate::doubles::made::{Made, text_of};
+use crate::doubles::made::Made;
 use crate::doubles::other::Other;
 use crate::doubles::poll::wake;
 use crate::doubles::same;
@@ -30,17 +30,25 @@ impl<'o, 'a: 'o, 'i: 'o, R: Wait + AllocGlobal> Schedule<'o, 'a, 'i, R> {
     fn is_rationed(&mut self, lines: &'o str, rations: &mut Rations) -> bool {
         let mut is_so = true;
         for line in lines.lines() {
-            let (order, _) = line.split_once(" => ").unwrap_or((line, ""));
-            let (from, to, order) = turns_in(order);
-            for turn in from..to {
-                self.turn = turn;
-                is_so &= self.act_rationed(order, rations).is_ok();
+            for order in line.split("; ") {
+                is_so &= self.is_order_rationed(order, rations);
             }
         }
         is_so
     }
 
-    // A future is polled at first, and then only if its task was woken, as an executor does.
+    fn is_order_rationed(&mut self, order: &'o str, rations: &mut Rations) -> bool {
+        let (order, _) = order.split_once(" => ").unwrap_or((order, ""));
+        let ((from, to, order), mut is_so) = (turns_in(order), true);
+        for turn in from..to {
+            self.turn = turn;
+            is_so &= self.act_rationed(order, rations).is_ok();
+        }
+        is_so
+    }
+
+    // A future is polled at first, and then only if its task was woken, as an executor does. What is only looked at is
+    // passed over.
     fn act_rationed(&mut self, order: &'o str, rations: &mut Rations) -> Result<(), AllocError> {
         let (word, rest) = order.split_once(' ').unwrap_or((order, ""));
         let (number, _) = rest.split_once(' ').unwrap_or((rest, ""));
@@ -49,7 +57,8 @@ impl<'o, 'a: 'o, 'i: 'o, R: Wait + AllocGlobal> Schedule<'o, 'a, 'i, R> {
             return Ok(());
         };
         let is_by_another = rest.split(' ').count() > 2;
-        if word == "poll" && (is_by_another || !task.is_woken()) {
+        let is_look = matches!(word, "is" | "lazy" | "future");
+        if is_look || word == "poll" && (is_by_another || !task.is_woken()) {
             return Ok(());
         }
         let held = rations.begin()?;
@@ -88,8 +97,7 @@ impl<'o, 'a: 'o, 'i: 'o, R: Wait + AllocGlobal> Schedule<'o, 'a, 'i, R> {
 impl<'o, 'a: 'o, 'i: 'o, R: Wait + AllocGlobal> Scene<'o, 'a, 'i, R> {
     // Whether nobody is left in the cells, and a new future of each has its value.
     fn works(&self) -> bool {
-        let alloc = self.rt.alloc();
-        let are_left = is_left(self.shown()) & is_left(text_of(alloc, self.lazy));
+        let are_left = is_left(self.shown()) & is_left(self.shown_lazy());
         let value = self.cell.get().copied().unwrap_or(7);
         let own = self.lazy.try_get().copied().unwrap_or(7);
         self.inits.set(Some(Ok(7)));
@@ -125,19 +133,8 @@ fn works_after<'s, 'i: 's, R: Wait + AllocGlobal>(
     lines: &'s str,
     rations: &mut Rations,
 ) -> bool {
-    let Some(task) = tasks.tasks.get(1) else {
-        return false;
-    };
-    let other = Other::new(cell, rt, task);
-    let scene = Scene {
-        rt,
-        cell,
-        lazy,
-        other: &other,
-        inits,
-        tasks,
-    };
-    let mut schedule = Schedule::begun(scene);
+    let other = Other::new(cell, rt, tasks.tasks.get(1));
+    let mut schedule = Schedule::begun(rt, (cell, lazy), &other, (inits, tasks));
     let is_rationed = schedule.is_rationed(lines, rations);
     let settles = schedule.settles();
     schedule.futures.clear();
@@ -178,9 +175,9 @@ where
 }
 
 // Whether memory is not short anyway, no future is forgotten, and the owner does nothing.
-fn is_plain(text: &str) -> bool {
-    let ends = ["\nstarve", "\nforget ", "\nowner ", "\nend "];
-    !ends.iter().any(|word| text.contains(*word))
+fn is_plain(lines: &str) -> bool {
+    let ends = ["starve", "forget ", "owner ", "end "];
+    !ends.iter().any(|word| lines.contains(*word))
 }
 
 /// Runs each schedule once for each request for memory that its lines make, with that one refused, whatever
@@ -197,7 +194,7 @@ where
     let mut refused = 0usize;
     for text in schedules.split("\n\n") {
         let (name, lines) = text.split_once('\n').unwrap_or((text, ""));
-        if is_plain(text) && most(lines) <= 102 {
+        if is_plain(lines) && most(lines) <= 102 {
             refused = refused.saturating_add(refused_in(rt, name, lines));
         }
     }

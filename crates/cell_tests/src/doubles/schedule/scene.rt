@@ -131,6 +131,14 @@ impl Inits {
     }
 }
 
+/// How often inits were polled, and how many were dropped.
+impl fmt::Display for Inits {
+    fn fmt<W: fmt::Write>(&self, f: &mut fmt::Formatter<W>) -> fmt::Result {
+        let (polls, drops) = (self.polls(), self.drops());
+        write!(f, "{polls} polls, {drops} drops")
+    }
+}
+
 // `v` with a value, or `e` with an error. None stands for Pending.
 fn answer_in(text: &str) -> Option<Tried> {
     if let Some(value) = text.strip_prefix('v') {
@@ -156,7 +164,7 @@ impl<'o, 'a: 'o, 'i: 'o, R: Wait + AllocGlobal> Scene<'o, 'a, 'i, R> {
         let (rt, cell, other) = (self.rt, self.cell, self.other);
         let plan = match word {
             "looks" => ("", rest),
-            "uses" => rest.split_once("; ").unwrap_or((rest, "")),
+            "uses" => rest.split_once("/ ").unwrap_or((rest, "")),
             _ => ("", ""),
         };
         match word {
@@ -180,12 +188,11 @@ impl<'o, 'a: 'o, 'i: 'o, R: Wait + AllocGlobal> Scene<'o, 'a, 'i, R> {
     }
 
     pub fn shown_lazy(&self) -> Result<String, AllocError> {
-        text_of(self.rt.alloc(), &(self.lazy.try_get(), self.lazy))
+        text_of(self.rt.alloc(), self.lazy)
     }
 
     pub fn counted(&self) -> Result<String, AllocError> {
-        let (polls, drops) = (self.inits.polls(), self.inits.drops());
-        format!(in self.rt.alloc(); "{polls} polls, {drops} drops")
+        format!(in self.rt.alloc(); "{}", self.inits)
     }
 
     /// What an init found that looked at its cell, or what the other future answered at last.
