@@ -78,7 +78,7 @@ fn four_numbers_are_drawn(rt: HostRuntime) {
     same(&rt, "the numbers", numbers, [0, 1, 2, 3]);
 }
 
-/// Two threads find nothing before a fill, and the value after it.
+/// Two threads find nothing before a fill, and the value after it. Nothing comes out of an empty shelf.
 #[test]
 fn a_shelf_is_filled_and_both_find_the_value(rt: HostRuntime) {
     let (shelf, filler) = Shelf::<u64>::new();
@@ -87,41 +87,24 @@ fn a_shelf_is_filled_and_both_find_the_value(rt: HostRuntime) {
     let (_token, seen) = shelf.fill(7, filler);
     front.agrees(&seen);
     let after = two_looks(&rt, &shelf, &seen);
-    let wanted = ((None, None), (Some(7), Some(7)));
-    same(&rt, "before and after", (before, after), wanted);
+    let (empty, _filler) = Shelf::<u64>::new();
+    let wanted = ((None, None), (Some(7), Some(7)), None);
+    same(
+        &rt,
+        "before, after, and empty",
+        (before, after, empty.take()),
+        wanted,
+    );
 }
 
-/// A look beside a fill finds nothing or the value, and each later one finds the value.
+/// A look after one beside a fill finds the value.
 #[test]
-fn a_look_beside_a_fill_finds_nothing_or_the_value(rt: HostRuntime) {
+fn a_look_after_a_fill_finds_the_value(rt: HostRuntime) {
     let (shelf, filler) = Shelf::<u64>::new();
     let front = filler.seen.again();
-    let beside = fill_and_look(&rt, &shelf, filler, &front, 5);
+    let _ = fill_and_look(&rt, &shelf, filler, &front, 5);
     let after = two_looks(&rt, &shelf, &front);
-    let seen = (beside.unwrap_or(5), after);
-    same(
-        &rt,
-        "beside the fill, and after it",
-        seen,
-        (5, (Some(5), Some(5))),
-    );
-}
-
-/// The owner of a shelf takes the value once it is there.
-#[test]
-fn an_owner_has_the_value(rt: HostRuntime) {
-    let (shelf, filler) = Shelf::<u64>::new();
-    let (token, _seen) = shelf.fill(7, filler);
-    let copy = token.again();
-    let value = shelf.into_value(&copy);
-    let (empty, _filler) = Shelf::<u64>::new();
-    let values = (Some(value), empty.take());
-    same(
-        &rt,
-        "the value, and that of an empty shelf",
-        values,
-        (Some(7), None),
-    );
+    same(&rt, "after the fill", after, (Some(5), Some(5)));
 }
 
 /// A lock's content, which is of the book that its number stands for.

@@ -1,6 +1,5 @@
-//! Whole calls of tasks, by scenes that were worked by hand, and by two threads.
+//! Whole calls of tasks, by scenes that were worked by hand.
 
 pub mod caller;
 mod hostile;
-mod threads;
 mod walks;

@@ -14,11 +14,11 @@
 //! | `drop T` | a drop |
 //! | `starve T` | a poll of T while all memory is taken |
 //! | `other` | how the last call of U ended that T made, and the notes of U's side, are told |
-//! | `show` | the word is told, and whether a queue stands at the door |
 //!
 //! The waker of a task has its number. After `=>` stands how the call ended, None if it goes on, and `Ok` with the
 //! value of a whole call; the notes of the task's side since it was last told; and where a task that is walked then
-//! stands. Several lines may stand in one, with `; ` between two, and the last is told.
+//! stands. Several may stand in one line, with `; ` between two. After ` | ` stands what the cell shows then: `set`,
+//! `held`, how many tasks are counted, and `queue` if one stands at the door; or `free`.
 
 use crate::bell::Cell;
 use crate::calls::caller::{Called, Caller};
@@ -27,7 +27,7 @@ use crate::side::Act;
 use once_machine::step::{Ending, Polled, Progress};
 use once_script::parse::{Line, RUN_STEPS, parse_line};
 use once_script::world::{Input, Ran};
-use std::alloc::{AllocGlobal, Global};
+use std::alloc::{AllocError, AllocGlobal, Global};
 use std::collections::BTreeMap;
 use std::io;
 use std::random::RandomSource;
@@ -80,9 +80,11 @@ fn check<R: Wait + AllocGlobal + RandomSource>(
     schedule: &Schedule<'_>,
 ) -> Result<(), Fail> {
     for (place, line) in schedule.text.lines().enumerate() {
-        let row = Row::read(line);
-        let told = scene.last_of(row.order)?;
-        compare(schedule, place, row, told)?;
+        for order in line.split("; ") {
+            let row = Row::read(order);
+            let told = scene.told(row)?;
+            compare(schedule, place, row, told)?;
+        }
     }
     Ok(())
 }
@@ -101,25 +103,37 @@ fn compare(
     }
 }
 
+// What a cell shows of which these words are so, and no more.
+fn shown_of(alloc: Global, words: &str) -> Result<String, AllocError> {
+    let mut count = 0u64;
+    for word in words.split(' ') {
+        count = word.parse().unwrap_or(count);
+    }
+    let (is_set, is_held) = (words.contains("set"), words.contains("held"));
+    let has_queue = words.contains("queue");
+    format!(in alloc;
+        "Inner {{ ready: {is_set}, quick_init: {is_held}, refcount: {count}, queue: {has_queue} }}"
+    )
+}
+
 impl<R: Wait + AllocGlobal + RandomSource> Scene<'_, '_, R> {
-    // What the last of these lines comes to. None says that one of them does not fit.
-    fn last_of(&mut self, lines: &str) -> Told {
-        let mut told = None;
-        for line in lines.split("; ") {
-            told = self.tell(line)?;
-            if told.is_none() {
-                break;
-            }
-        }
-        Ok(told)
+    // What a line comes to, with the state that the cell has to show, if it has to, or else with what it shows.
+    fn told(&mut self, row: Row<'_>) -> Told {
+        let Some(told) = self.tell(row.order)? else {
+            return Ok(None);
+        };
+        let Some((_, state)) = row.added.split_once(" | ") else {
+            return Ok(Some(told));
+        };
+        let alloc = self.rt.alloc();
+        let shown = format!(in alloc; "{:?}", self.cell)?;
+        let is_so = shown == shown_of(alloc, state)?;
+        let state = if is_so { state } else { shown.as_str() };
+        Ok(Some(format!(in alloc; "{told} | {state}")?))
     }
 
     fn tell(&mut self, text: &str) -> Told {
-        let alloc = self.rt.alloc();
-        if text == "show" {
-            return Ok(Some(format!(in alloc; "{:?}", self.cell)?));
-        }
-        match parse_line(alloc, text)? {
+        match parse_line(self.rt.alloc(), text)? {
             Some(line) => self.walk(&line),
             None => self.call(text),
         }

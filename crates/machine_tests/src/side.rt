@@ -61,8 +61,6 @@ pub struct TestSide<O: Other = Nobody> {
     // Whether memory for a copy of the waker is given.
     is_granted: bool,
     notes: Vec<Note>,
-    /// How often the init was polled.
-    pub polls: u64,
     // A note was lost, since the memory for it was refused.
     is_short: bool,
     // What the init gave.
@@ -121,7 +119,6 @@ impl<O: Other> TestSide<O> {
             init: Some(init_that_answers(answer)),
             is_granted: true,
             notes: Vec::with_capacity(rt.alloc(), 4)?,
-            polls: 0,
             is_short: false,
             has_value: false,
             has_error: false,
@@ -196,7 +193,6 @@ impl<O: Other> Side<Bell> for TestSide<O> {
 
     fn run(&mut self, right: &mut Hand) -> Polled {
         self.other.obey(self.at_run);
-        self.polls = self.polls.saturating_add(1);
         let polled = self.poller.poll(&mut self.init, right);
         self.note(Note::Ran(polled));
         match polled {

@@ -54,15 +54,15 @@ impl<'a, 'r, R: Wait + AllocGlobal, O: Other> Caller<'a, 'r, R, O> {
         Ok(Caller { task, side, heard })
     }
 
-    /// Its init answers so from now on, and memory for a copy of the waker is given or not.
-    pub fn answers(&mut self, answer: Polled, is_granted: bool)
+    // Its init answers so from now on, and memory for a copy of the waker is given or not.
+    fn answers(&mut self, answer: Polled, is_granted: bool)
         ensures { self.new.task ≡ self.old.task }
     {
         self.side.answers(answer, is_granted);
     }
 
-    /// A poll.
-    pub fn poll(&mut self) -> Ending
+    // A poll.
+    fn poll(&mut self) -> Ending
         requires { self.old.task.finished ≡ false }
         ensures finished { (result ≡ Ending.Pending) ↔ (self.new.task.finished ≡ false) }
         ensures set { result ≡ Ending.Value → EndsSet self.new.task.number self.new.task.log }
@@ -71,8 +71,8 @@ impl<'a, 'r, R: Wait + AllocGlobal, O: Other> Caller<'a, 'r, R, O> {
         self.task.poll(&mut self.side)
     }
 
-    /// The value, after a poll that answered it.
-    pub fn value(&self) -> u64
+    // The value, after a poll that answered it.
+    fn value(&self) -> u64
         requires { EndsSet self.now.task.number self.now.task.log }
     {
         let (value, _) = self.task.value();
@@ -102,8 +102,8 @@ impl<'a, 'r, R: Wait + AllocGlobal, O: Other> Caller<'a, 'r, R, O> {
         (ended, self.side.take())
     }
 
-    /// A drop, and how it ends.
-    pub fn left(&mut self) -> Option<Result<u64, Ending>> {
+    // A drop, and how it ends.
+    fn left(&mut self) -> Option<Result<u64, Ending>> {
         if self.task.is_finished() {
             return None;
         }

@@ -8,36 +8,31 @@ const CALLS: &str = "\
 make 7 v; poll 7 v => Ok(7) [Ran(Value), Closed, Put]
 
 # who_waits_gets_the_value: the holder wakes a task that waits, and that gets the value
-make 7 p; make 8 v; poll 7 p => Err(Pending) [Ran(Pending)]
-poll 8 v => Err(Pending) [Copied(Some(8))]
+make 7 p; make 8 v; poll 7 p => Err(Pending) [Ran(Pending)]; poll 8 v => Err(Pending) [Copied(Some(8))]
 poll 7 v => Ok(7) [Ran(Value), Closed, Put, WokeAll([(0, Some(8))])]
 poll 8 v => Ok(7) [Closed]
 
 # an_error_calls_one_who_waits: the holder fails, and wakes the first of two, which then gives the value
-make 1 p; make 2 v; make 3 v; poll 1 p => Err(Pending) [Ran(Pending)]
-poll 2 v => Err(Pending) [Copied(Some(2))]
+make 1 p; make 2 v; make 3 v; poll 1 p => Err(Pending) [Ran(Pending)]; poll 2 v => Err(Pending) [Copied(Some(2))]
 poll 3 v => Err(Pending) [Copied(Some(3))]
 poll 1 e => Err(Error) [Ran(Error), Closed, WokeOne(Some(2))]
 poll 2 v => Ok(2) [Ran(Value), Closed, Put, WokeAll([(1, Some(3))])]
 poll 3 v => Ok(2) [Closed]
 
 # a_holder_that_is_dropped_calls_one: the task that it wakes gives the value
-make 1 p; make 2 v; poll 1 p => Err(Pending) [Ran(Pending)]
-poll 2 v => Err(Pending) [Copied(Some(2))]
+make 1 p; make 2 v; poll 1 p => Err(Pending) [Ran(Pending)]; poll 2 v => Err(Pending) [Copied(Some(2))]
 drop 1 => Err(Dropped) [Closed, WokeOne(Some(2))]
 poll 2 v => Ok(2) [Ran(Value), Closed, Put, WokeAll([])]
 
 # one_who_was_called_and_leaves_calls_the_next: a task that was woken is dropped, and passes its turn on
-make 1 p; make 2 v; make 3 v; poll 1 p => Err(Pending) [Ran(Pending)]
-poll 2 v => Err(Pending) [Copied(Some(2))]
+make 1 p; make 2 v; make 3 v; poll 1 p => Err(Pending) [Ran(Pending)]; poll 2 v => Err(Pending) [Copied(Some(2))]
 poll 3 v => Err(Pending) [Copied(Some(3))]
 drop 1 => Err(Dropped) [Closed, WokeOne(Some(2))]
 drop 2 => Err(Dropped) [Closed, WokeOne(Some(3))]
 poll 3 v => Ok(3) [Ran(Value), Closed, Put, WokeAll([])]
 
 # one_who_was_not_called_leaves_and_calls_nobody: the holder then wakes the other
-make 1 p; make 2 v; make 3 v; poll 1 p => Err(Pending) [Ran(Pending)]
-poll 2 v => Err(Pending) [Copied(Some(2))]
+make 1 p; make 2 v; make 3 v; poll 1 p => Err(Pending) [Ran(Pending)]; poll 2 v => Err(Pending) [Copied(Some(2))]
 poll 3 v => Err(Pending) [Copied(Some(3))]
 drop 2 => Err(Dropped) [Closed, WokeOne(None)]
 poll 1 v => Ok(1) [Ran(Value), Closed, Put, WokeAll([(1, Some(3))])]
