@@ -19,16 +19,14 @@ use test_doubles::memory::hoard;
 fn told_by_tokens<R: Host>(rt: &R, tally: &Tally, parker: &mut Parker) -> [Option<Reply>; 3] {
     let (cell, init) = (OnceCell::new(), |number| tally.init(40, 0, Ok(number)));
     let (mut token, mut other) = (cell.token(), cell.token());
-    let first = told(cell.get_or_init(rt, init(23)).wait_as(&mut token));
-    let second = told(
-        cell.get_or_init(rt, init(24))
-            .wait_as_on(&mut token, parker),
-    );
-    let third = told(
-        cell.get_or_init(rt, init(25))
-            .wait_as_on(&mut other, parker),
-    );
-    [first, second, third]
+    let first = cell.get_or_init(rt, init(23)).wait_as(&mut token);
+    let second = cell.get_or_init(rt, init(24));
+    let third = cell.get_or_init(rt, init(25));
+    [
+        told(first),
+        told(second.wait_as_on(&mut token, parker)),
+        told(third.wait_as_on(&mut other, parker)),
+    ]
 }
 
 /// A token learns the value by a wait. Another init is not polled then.
@@ -153,13 +151,8 @@ fn told_without_memory<R: Host>(
 fn no_memory_to_wait(rt: HostRuntime) -> Result<(), Fail> {
     let (empty, set, mut parker) = (OnceCell::new(), OnceCell::new_with(7), Parker::new(&rt)?);
     let told = told_without_memory(&rt, &empty, &set, &mut parker)?;
-    let wanted = [None, Some(Reply::Value(7)), Some(Reply::Value(7))];
-    let later = waited(&rt, &empty, 3);
-    same(
-        &rt,
-        "no memory",
-        (told, later),
-        (wanted, Some(Reply::Value(3))),
-    );
+    let seven = Some(Reply::Value(7));
+    let wanted = ([None, seven, seven], Some(Reply::Value(3)));
+    same(&rt, "no memory", (told, waited(&rt, &empty, 3)), wanted);
     Ok(())
 }

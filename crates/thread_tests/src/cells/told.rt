@@ -62,15 +62,24 @@ impl<'a, R: Host> Future for Telling<'a, R> {
     }
 }
 
-// The token of a thread that is told 5 by the cell: by an executor, or by a wait after which the token looks.
+// The token of a thread that is told 5 by the cell: by an executor, or by a wait after which the token looks. A thread
+// that is not the first comes while the other is inside the init of the cell. A wait cannot tell when it begins, so
+// before it the init of the other is let go on.
 fn told<'a, R: Host>(
     rt: &'a R,
     cell: &'a OnceCell<u64>,
     at: &'a Meeting,
     waits: bool,
+    is_first: bool,
 ) -> Option<Known<'a, u64>>
     ensures { IfSome result (λ token. token.cell ≡ cell.now) }
 {
+    if !is_first && !at.has(1) {
+        return None;
+    }
+    if !is_first && waits {
+        at.come();
+    }
     let (future, mut token) = (cell.get_or_try_init(rt, gate(at)), cell.token());
     if waits {
         let value = future.wait().ok()?;
@@ -139,25 +148,6 @@ fn told_lazily<'a, R: Host>(
     }
 }
 
-// The token of the thread that comes while the other is inside the init of the cell. A wait cannot tell when it begins,
-// so before it the init of the other is let go on.
-fn told_later<'a, R: Host>(
-    rt: &'a R,
-    cell: &'a OnceCell<u64>,
-    at: &'a Meeting,
-    waits: bool,
-) -> Option<Known<'a, u64>>
-    ensures { IfSome result (λ token. token.cell ≡ cell.now) }
-{
-    if !at.has(1) {
-        return None;
-    }
-    if waits {
-        at.come();
-    }
-    told(rt, cell, at, waits)
-}
-
 // Whether two threads were told one value by a cell.
 fn both_told<'a, R: Hosts>(
     rt: &'a R,
@@ -167,10 +157,10 @@ fn both_told<'a, R: Hosts>(
 ) -> bool {
     let one = move || -> Option<Known<'_, u64>>
         ensures { IfSome result (λ token. token.cell ≡ cell.entry.now) }
-    { told(rt, cell, at, waits) };
+    { told(rt, cell, at, waits, true) };
     let two = move || -> Option<Known<'_, u64>>
         ensures { IfSome result (λ token. token.cell ≡ cell.entry.now) }
-    { told_later(rt, cell, at, waits) };
+    { told(rt, cell, at, waits, false) };
     let (a, b) = thread::join(rt, one, two);
     let Some(a) = a else {
         return false;
@@ -223,12 +213,8 @@ fn tokens_of_two_threads(rt: HostRuntime) -> Result<(), Fail> {
     let tasks = (MockTask::new(&rt)?, MockTask::new(&rt)?);
     for _ in 0..TIMES {
         for (name, waits) in [("executor", false), ("wait", true)] {
-            same(
-                &rt,
-                name,
-                are_told(&rt, (&tasks.0, &tasks.1), waits),
-                [true; 4],
-            );
+            let are_told = are_told(&rt, (&tasks.0, &tasks.1), waits);
+            same(&rt, name, are_told, [true; 4]);
         }
     }
     Ok(())

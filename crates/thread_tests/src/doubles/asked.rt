@@ -56,7 +56,7 @@ impl Number for Value<'_> {
 impl Number for Given<'_> {
     fn number(&self) -> Tried {
         match self {
-            Ok(value) => Ok(value.number),
+            Ok(value) => value.number(),
             Err(error) => Err(*error),
         }
     }
@@ -94,18 +94,9 @@ impl<R: Host> Future for Asking<'_, '_, R> {
 
     fn poll(&mut self, cx: &mut Context<'_>) -> Poll<Reply> {
         match self {
-            Asking::Once(future) => match Future::poll(future, cx) {
-                Poll::Ready(answer) => Poll::Ready(heard(answer)),
-                Poll::Pending => Poll::Pending,
-            },
-            Asking::Try(future) => match Future::poll(future, cx) {
-                Poll::Ready(answer) => Poll::Ready(heard(answer)),
-                Poll::Pending => Poll::Pending,
-            },
-            Asking::Lazy(future) => match Future::poll(future, cx) {
-                Poll::Ready(answer) => Poll::Ready(heard(answer)),
-                Poll::Pending => Poll::Pending,
-            },
+            Asking::Once(future) => Future::poll(future, cx).map(heard),
+            Asking::Try(future) => Future::poll(future, cx).map(heard),
+            Asking::Lazy(future) => Future::poll(future, cx).map(heard),
         }
     }
 }
