@@ -12,15 +12,18 @@ use std::sync::Wait;
 use std::sync::atomic::AtomicU64;
 use std::time::Clock;
 
+/// A handle for all that a caller needs.
+pub trait Host: Wait + RandomSource + AllocGlobal + Clock {}
+
+impl<R: Wait + RandomSource + AllocGlobal + Clock> Host for R {}
+
 /// The value of a key. No token says which it is: it is ten times the key.
-pub fn told<R>(
+pub fn told<R: Host>(
     rt: &R,
     memo: &Memo<u64, TenTimes>,
     fetches: &AtomicU64,
     key: u64,
 ) -> Result<u64, Fault>
-where
-    R: Wait + RandomSource + AllocGlobal + Clock,
     requires { key * 10 < 2 ^ 64 }
     ensures { IfOk result (λ value. value ≡ key * 10) }
 {

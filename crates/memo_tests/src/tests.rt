@@ -7,23 +7,27 @@ mod promised;
 mod runs;
 mod watched;
 
-use async_once_cell::once::{InitFuture, Known, Refused};
+use crate::callers::Host;
+use async_once_cell::once::{InitFuture, Refused};
 use futures::future::{Pending, pending};
 use futures::test::MockTask;
 use memo_table::ask::{KEYS, ask};
 use memo_table::fault::Fault;
 use memo_table::table::Memo;
 use pagebook::Fits;
-use std::alloc::{AllocError, AllocGlobal, Global};
+use std::alloc::{AllocError, Global};
 use std::fmt::Debug;
 use std::process::Abort;
-use std::random::RandomSource;
-use std::sync::Wait;
 use std::sync::atomic::{AtomicU64, Ordering};
 use std::test::Fail;
-use std::time::Clock;
+use std::thread::Threads;
 use test_doubles::memory::hoard;
 use watched::Watched;
+
+// A handle for threads that have one.
+trait Hosts: Host + Threads + Sync {}
+
+impl<R: Host + Threads + Sync> Hosts for R {}
 
 // The one comparison, which names the row or what is compared: an `assert_eq!` is dear to prove.
 fn same<T: PartialEq + Debug + Drop>(rt: &impl Abort, name: &str, found: T, wanted: T) {
@@ -47,18 +51,19 @@ fn value_at(memo: &Memo<u64>, key: u64) -> Option<u64> {
     Some(cell.get().copied().unwrap_or(0))
 }
 
-// The value that is told of a key.
-fn value_told<R: Wait + RandomSource + AllocGlobal + Clock>(
+// What is told of a key: its value, or the key that is missing.
+fn told<R: Host>(
     rt: &R,
     memo: &Memo<u64>,
     fetches: &AtomicU64,
     key: u64,
-) -> Option<u64>
+) -> Result<u64, Option<u64>>
     requires { key * 10 < 2 ^ 64 }
 {
     match ask(rt, memo, fetches, key, 1) {
-        Ok(answer) => Some(answer.value),
-        Err(_) => None,
+        Ok(answer) => Ok(answer.value),
+        Err(Fault::NoKey(key)) => Err(Some(key)),
+        Err(_) => Err(None),
     }
 }
 
@@ -67,37 +72,12 @@ fn value_told<R: Wait + RandomSource + AllocGlobal + Clock>(
 fn cells_of_keys(rt: HostRuntime) -> Result<(), Fail> {
     let fetches = AtomicU64::new(0);
     let memo = table(rt.alloc(), &[7, 5, 7, u64::MAX])?;
-    let seen = [
-        value_told(&rt, &memo, &fetches, 7),
-        value_told(&rt, &memo, &fetches, 7),
-        value_at(&memo, 7),
-        value_at(&memo, 5),
-        value_at(&memo, u64::MAX),
-        Some(fetches.load(Ordering::SeqCst)),
-    ];
-    let wanted = [Some(70), Some(70), Some(70), Some(0), Some(0), Some(1)];
-    same(
-        &rt,
-        "told twice, then at each key, then the fetches",
-        seen,
-        wanted,
-    );
+    let (once, twice) = (told(&rt, &memo, &fetches, 7), told(&rt, &memo, &fetches, 7));
+    let kept = [7, 5, u64::MAX].map(|key| value_at(&memo, key));
+    same(&rt, "told twice", [once, twice], [Ok(70); 2]);
+    same(&rt, "at each key", kept, [Some(70), Some(0), Some(0)]);
+    same(&rt, "fetches", fetches.load(Ordering::SeqCst), 1);
     Ok(())
-}
-
-// The key that a caller which asks for this one is told to be missing.
-fn missing<R: Wait + RandomSource + AllocGlobal + Clock>(
-    rt: &R,
-    memo: &Memo<u64>,
-    fetches: &AtomicU64,
-    key: u64,
-) -> Option<u64>
-    requires { key * 10 < 2 ^ 64 }
-{
-    match ask(rt, memo, fetches, key, 1) {
-        Err(Fault::NoKey(key)) => Some(key),
-        _ => None,
-    }
 }
 
 // Tables that lack 0, 5 and 7.
@@ -109,48 +89,15 @@ fn keys_without_a_cell(rt: HostRuntime) -> Result<(), Fail> {
     let fetches = AtomicU64::new(0);
     for keys in OTHERS {
         let memo = table(rt.alloc(), keys)?;
-        let seen = [
-            missing(&rt, &memo, &fetches, 0),
-            missing(&rt, &memo, &fetches, 5),
-            missing(&rt, &memo, &fetches, 7),
-            Some(fetches.load(Ordering::SeqCst)),
+        let told = [
+            told(&rt, &memo, &fetches, 0),
+            told(&rt, &memo, &fetches, 5),
+            told(&rt, &memo, &fetches, 7),
         ];
-        same(
-            &rt,
-            "three keys, and the fetches",
-            seen,
-            [Some(0), Some(5), Some(7), Some(0)],
-        );
+        let wanted = [Err(Some(0)), Err(Some(5)), Err(Some(7))];
+        same(&rt, "three keys", told, wanted);
     }
-    Ok(())
-}
-
-// What a token gets before a value is told and after that, what a second token gets, and whether the two
-// agree.
-fn tokens<R: Wait + RandomSource + AllocGlobal + Clock>(
-    rt: &R,
-    memo: &Memo<u64>,
-) -> Option<([Option<u64>; 3], bool)> {
-    let (mut first, mut second) = (memo.token(2)?, memo.token(2)?);
-    let before = memo.get_as(2, &mut first).copied();
-    let told = value_told(rt, memo, &AtomicU64::new(0), 2);
-    let mine = memo.get_as(2, &mut first).copied();
-    let other = memo.get_as(2, &mut second).copied();
-    let agree = told.is_some() && Known::compare(&first, &second);
-    Some(([before, mine, other], agree))
-}
-
-/// A token knows nothing before the value is set, and gets it after; then two tokens agree.
-#[test]
-fn tokens_of_a_key(rt: HostRuntime) -> Result<(), Fail> {
-    let memo = table(rt.alloc(), &[1, 2])?;
-    let wanted = Some(([None, Some(20), Some(20)], true));
-    same(
-        &rt,
-        "before, after, the second token, whether they agree",
-        tokens(&rt, &memo),
-        wanted,
-    );
+    same(&rt, "fetches", fetches.load(Ordering::SeqCst), 0);
     Ok(())
 }
 
@@ -166,7 +113,7 @@ fn a_table_is_refused(rt: HostRuntime) -> Result<(), Fail> {
 }
 
 // A future by which a task holds the cell of a key for good; None if the cell is not free.
-fn holder<'a, R: Wait + AllocGlobal, V: Fits<u64>>(
+fn holder<'a, R: Host, V: Fits<u64>>(
     rt: &'a R,
     memo: &'a Memo<u64, V>,
     key: u64,
@@ -180,7 +127,7 @@ fn holder<'a, R: Wait + AllocGlobal, V: Fits<u64>>(
 }
 
 // How a caller ends that asks by this handle for a key within so many turns, while another task holds its cell.
-fn end_beside<R: Wait + RandomSource + AllocGlobal + Clock>(
+fn end_beside<R: Host>(
     rt: &R,
     by: &Watched<'_, R>,
     memo: &Memo<u64>,
@@ -199,21 +146,14 @@ fn end_beside<R: Wait + RandomSource + AllocGlobal + Clock>(
 }
 
 // How it ends with memory, and how many pauses it makes.
-fn paused<R: Wait + RandomSource + AllocGlobal + Clock>(
-    rt: &R,
-    memo: &Memo<u64>,
-    turns: u64,
-) -> Result<(&'static str, u64), Fault> {
+fn paused<R: Host>(rt: &R, memo: &Memo<u64>, turns: u64) -> Result<(&'static str, u64), Fault> {
     let by = Watched::new(rt);
     let end = end_beside(rt, &by, memo, turns)?;
     Ok((end, by.pauses()))
 }
 
 // How it ends at its only turn if memory is refused from some request on, and whether there was such a request.
-fn starved<R: Wait + RandomSource + AllocGlobal + Clock>(
-    rt: &R,
-    before: u64,
-) -> Result<(&'static str, bool), Fault> {
+fn starved<R: Host>(rt: &R, before: u64) -> Result<(&'static str, bool), Fault> {
     let memo = table(rt.alloc(), &KEYS)?;
     let by = Watched::starving(rt, before);
     let end = end_beside(rt, &by, &memo, 1)?;
@@ -229,13 +169,9 @@ fn turns_are_used_up(rt: HostRuntime) -> Result<(), Fail> {
         let seen = paused(&rt, &memo, turns)?;
         same(&rt, "the end, and the pauses", seen, ("all turns", turns));
     }
-    let told = value_told(&rt, &memo, &fetches, 1);
-    same(
-        &rt,
-        "the next, and the fetches",
-        (told, fetches.load(Ordering::SeqCst)),
-        (Some(10), 1),
-    );
+    let next = told(&rt, &memo, &fetches, 1);
+    let found = (next, fetches.load(Ordering::SeqCst));
+    same(&rt, "the next, and the fetches", found, (Ok(10), 1));
     Ok(())
 }
 
@@ -247,12 +183,7 @@ fn a_refused_poll_is_told(rt: HostRuntime) -> Result<(), Fail> {
         let (end, has_starved) = starved(&rt, before)?;
         let is_told = has_starved == (end == "refused" || end == "no task");
         let seen = (before, is_told, end == "otherwise");
-        same(
-            &rt,
-            "requests before, whether it is told so",
-            seen,
-            (before, true, false),
-        );
+        same(&rt, "requests, told so", seen, (before, true, false));
         was_refused |= end == "refused";
     }
     same(&rt, "whether a poll was refused", was_refused, true);

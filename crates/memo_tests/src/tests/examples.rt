@@ -3,6 +3,7 @@ ghost use Rattle.std.specs.Prelude.{IsSome};
 ghost use Rattle.memo_table.specs.Memo.{cell_of};
 
 use super::same;
+use crate::callers::Host;
 use async_once_cell::Refused;
 use futures::executor::block_on;
 use futures::future::ready;
@@ -11,17 +12,12 @@ use futures::test::MockTask;
 use memo_table::fault::Fault;
 use memo_table::fetch::Fetch;
 use memo_table::table::Memo;
-use std::alloc::{AllocGlobal, Global};
-use std::random::RandomSource;
-use std::sync::Wait;
+use std::alloc::Global;
 use std::sync::atomic::{AtomicU64, Ordering};
 use std::test::Fail;
 
 /// Two fetches of one key, of which the second is not polled.
-fn fetched<R>(rt: &R) -> Result<(u64, u64), Fault>
-where
-    R: Wait + RandomSource + AllocGlobal,
-{
+fn fetched<R: Host>(rt: &R) -> Result<(u64, u64), Fault> {
     let alloc = rt.alloc();
     let memo = Memo::new(alloc, vec![in alloc; 1, 2]?)?;
     let cell = memo.cell(1).unwrap();
@@ -44,9 +40,7 @@ fn tokens(alloc: Global) -> Result<(bool, bool), Fault> {
 }
 
 /// What a token gets before a fetch, and after.
-fn learned<R>(rt: &R, memo: &Memo<u64>) -> Result<(Option<u64>, Option<u64>), Fault>
-where
-    R: Wait + RandomSource + AllocGlobal,
+fn learned<R: Host>(rt: &R, memo: &Memo<u64>) -> Result<(Option<u64>, Option<u64>), Fault>
     requires { IsSome (cell_of memo.now 7) }
 {
     let mut token = memo.token(7).unwrap();
@@ -63,10 +57,7 @@ fn looked(memo: &Memo<u64>) -> Option<u64> {
 }
 
 /// What a fetch that is polled by hand gives, and how many were counted.
-fn polled<R>(rt: &R) -> Result<(Poll<u64>, u64), Fault>
-where
-    R: RandomSource + AllocGlobal,
-{
+fn polled<R: Host>(rt: &R) -> Result<(Poll<u64>, u64), Fault> {
     let task = MockTask::new(rt)?;
     let fetches = AtomicU64::new(0);
     let mut fetch = Fetch::new(3, &fetches);
@@ -75,50 +66,32 @@ where
 }
 
 /// What a table tells of a key, before and after a fetch, and what it has then.
-fn learned_and_looked<R>(rt: &R) -> Result<(Option<u64>, Option<u64>, Option<u64>), Fault>
-where
-    R: Wait + RandomSource + AllocGlobal,
-{
+fn learned_and_looked<R: Host>(rt: &R) -> Result<[Option<u64>; 3], Fault> {
     let alloc = rt.alloc();
     let memo = Memo::new(alloc, vec![in alloc; 7]?)?;
     let (early, value) = learned(rt, &memo)?;
-    Ok((early, value, looked(&memo)))
+    Ok([early, value, looked(&memo)])
 }
 
 /// Of two fetches of a key the first gives the value, and the table has a token of each of its keys alone.
 #[test]
 fn fetches_and_tokens(rt: HostRuntime) -> Result<(), Fail> {
-    let seen = (fetched(&rt)?, tokens(rt.alloc())?);
-    same(
-        &rt,
-        "two fetches, and the tokens of two keys",
-        seen,
-        ((10, 10), (true, false)),
-    );
+    same(&rt, "two fetches", fetched(&rt)?, (10, 10));
+    same(&rt, "two tokens", tokens(rt.alloc())?, (true, false));
     Ok(())
 }
 
 /// A token and a look find the value once it was fetched.
 #[test]
 fn looks_before_and_after(rt: HostRuntime) -> Result<(), Fail> {
-    let seen = learned_and_looked(&rt)?;
-    same(
-        &rt,
-        "before a fetch, after it, at a look",
-        seen,
-        (None, Some(70), Some(70)),
-    );
+    let found = learned_and_looked(&rt)?;
+    same(&rt, "before, after", found, [None, Some(70), Some(70)]);
     Ok(())
 }
 
 /// A fetch gives ten times its key at its first poll, and counts itself.
 #[test]
 fn a_fetch_by_hand(rt: HostRuntime) -> Result<(), Fail> {
-    same(
-        &rt,
-        "a poll, and the fetches",
-        polled(&rt)?,
-        (Poll::Ready(30), 1),
-    );
+    same(&rt, "poll, fetches", polled(&rt)?, (Poll::Ready(30), 1));
     Ok(())
 }

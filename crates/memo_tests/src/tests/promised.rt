@@ -3,33 +3,27 @@
 ghost use Rattle.std.specs.Prelude.{◌≡◌, ◌*◌, ◌^◌, ◌<◌, [], ◌∷◌, true, IfOk, IfSome};
 ghost use Rattle.async_once_cell.specs.Views.{about_of, is_shared};
 
-use super::same;
-use crate::callers::{looked, told};
+use super::{Hosts, same};
+use crate::callers::{Host, looked, told};
 use async_once_cell::OnceCell;
 use boxcar::tag::Tag;
 use memo_table::fault::Fault;
 use memo_table::fetch::{Fetch, TenTimes};
 use memo_table::table::{Key, Memo};
-use std::alloc::AllocGlobal;
-use std::random::RandomSource;
-use std::sync::Wait;
 use std::sync::atomic::{AtomicU64, Ordering};
 use std::test::Fail;
-use std::thread::{self, Threads};
-use std::time::Clock;
+use std::thread;
 
 // The keys of the table.
 const KEYS: [u64; 3] = [5, 6, 7];
 
 /// One thread asks while another looks, and they tell each other nothing. What each is told is ten times the key.
-fn told_and_looked<R>(
+fn told_and_looked<R: Hosts>(
     rt: &R,
     memo: &Memo<u64, TenTimes>,
     fetches: &AtomicU64,
     key: u64,
 ) -> (Result<u64, Fault>, Option<u64>)
-where
-    R: Threads + Wait + RandomSource + AllocGlobal + Clock + Sync,
     requires { key * 10 < 2 ^ 64 }
     ensures { IfOk result.0 (λ value. value ≡ key * 10) × IfSome result.1 (λ value. value ≡ key * 10) }
 {
@@ -43,14 +37,12 @@ where
 }
 
 /// The value for a caller of one cell. A fetch gives ten times the key, as the cell asks of each init.
-fn asked<R>(
+fn asked<R: Host>(
     rt: &R,
     cell: &OnceCell<u64, TenTimes>,
     key: u64,
     fetches: &AtomicU64,
 ) -> Result<u64, Fault>
-where
-    R: Wait + RandomSource + AllocGlobal,
     requires shared { is_shared cell.now ≡ true }
     requires about { about_of cell.now ≡ key ∷ [] }
     requires small { key * 10 < 2 ^ 64 }
@@ -61,9 +53,7 @@ where
 }
 
 /// The value that the owner takes, twice: the second time from the cell that was left, which promises the same.
-fn taken_twice<R>(rt: &R, key: u64) -> Result<(Option<u64>, Option<u64>), Fault>
-where
-    R: Wait + RandomSource + AllocGlobal,
+fn taken_twice<R: Host>(rt: &R, key: u64) -> Result<(Option<u64>, Option<u64>), Fault>
     requires { key * 10 < 2 ^ 64 }
     ensures { IfOk result (λ taken. IfSome taken.0 (λ value. value ≡ key * 10)
         × IfSome taken.1 (λ value. value ≡ key * 10)) }
@@ -78,10 +68,7 @@ where
 
 // What is told of two keys, and of the first again, and how many were fetched. The value of another key is never asked
 // for.
-fn told_in_turn<R>(rt: &R, memo: &Memo<u64, TenTimes>) -> Result<([u64; 3], u64), Fault>
-where
-    R: Wait + RandomSource + AllocGlobal + Clock,
-{
+fn told_in_turn<R: Host>(rt: &R, memo: &Memo<u64, TenTimes>) -> Result<([u64; 3], u64), Fault> {
     let fetches = AtomicU64::new(0);
     let values = [
         told(rt, memo, &fetches, 7)?,
@@ -96,13 +83,8 @@ where
 fn values_of_keys(rt: HostRuntime) -> Result<(), Fail> {
     let keys = Vec::from_array(rt.alloc(), KEYS)?;
     let memo = Memo::<u64, TenTimes>::promised(rt.alloc(), keys)?;
-    let seen = told_in_turn(&rt, &memo)?;
-    same(
-        &rt,
-        "the values in turn, and the fetches",
-        seen,
-        ([70, 50, 70], 2),
-    );
+    let told = told_in_turn(&rt, &memo)?;
+    same(&rt, "values, fetches", told, ([70, 50, 70], 2));
     Ok(())
 }
 
@@ -112,23 +94,14 @@ fn a_look_beside_a_fetch(rt: HostRuntime) -> Result<(), Fail> {
     let keys = Vec::from_array(rt.alloc(), KEYS)?;
     let memo = Memo::<u64, TenTimes>::promised(rt.alloc(), keys)?;
     let (told, seen) = told_and_looked(&rt, &memo, &AtomicU64::new(0), 7);
-    same(
-        &rt,
-        "what is told, and what is seen",
-        (told?, seen.unwrap_or(70)),
-        (70, 70),
-    );
+    same(&rt, "told, seen", (told?, seen.unwrap_or(70)), (70, 70));
     Ok(())
 }
 
 /// The owner of a cell takes the value that was fetched, each time.
 #[test]
 fn values_of_an_owner(rt: HostRuntime) -> Result<(), Fail> {
-    same(
-        &rt,
-        "taken twice",
-        taken_twice(&rt, 7)?,
-        (Some(70), Some(70)),
-    );
+    let taken = taken_twice(&rt, 7)?;
+    same(&rt, "taken twice", taken, (Some(70), Some(70)));
     Ok(())
 }

@@ -2,20 +2,16 @@
 
 use super::errors::Errors;
 use super::watched::Watched;
-use super::{holder, same, same_text, table};
+use super::{Hosts, holder, same, same_text, table};
 use async_once_cell::once::Refused;
 use futures::test::MockTask;
 use memo_table::ask::KEYS;
 use memo_table::fault::Fault;
 use memo_table::program::{run, show, status};
-use std::alloc::{AllocError, AllocGlobal, Global};
+use std::alloc::{AllocError, Global};
 use std::io;
 use std::process::Abort;
-use std::random::RandomSource;
-use std::sync::Wait;
 use std::test::Fail;
-use std::thread::Threads;
-use std::time::Clock;
 use test_doubles::memory::hoard;
 use test_doubles::target::Target;
 
@@ -73,7 +69,7 @@ fn same_run(rt: &impl Abort, name: &str, told: &Told, status: u8, said: &str, pr
 }
 
 // A run by this handle, beside a task that holds the cell of a key for good, and how many pauses it made.
-fn run_beside<R: Threads + Wait + RandomSource + AllocGlobal + Clock + Sync>(
+fn run_beside<R: Hosts>(
     rt: &R,
     by: Watched<'_, R>,
     key: u64,
@@ -100,21 +96,13 @@ fn turns_used_up_print_nothing(rt: HostRuntime) -> Result<(), Fail> {
         let (told, made) = run_beside(&rt, Watched::new(&rt), key, turns)?;
         same_run(&rt, "a run", &told, 1, TURNS_USED_UP, "");
         let made = if key == 1 { made } else { pauses };
-        same(
-            &rt,
-            "key, turns, pauses",
-            (key, turns, made),
-            (key, turns, pauses),
-        );
+        same(&rt, "key, pauses", (key, made), (key, pauses));
     }
     Ok(())
 }
 
 // A run that has no memory from the request on that comes after so many, and whether there was such a request.
-fn run_starving<R: Threads + Wait + RandomSource + AllocGlobal + Clock + Sync>(
-    rt: &R,
-    before: u64,
-) -> Result<(Told, bool), AllocError> {
+fn run_starving<R: Hosts>(rt: &R, before: u64) -> Result<(Told, bool), AllocError> {
     let mut printed = Vec::with_capacity(rt.alloc(), TEXT.len())?;
     let by = Watched::starving(rt, before);
     let how = run(&by, &mut printed);
@@ -133,12 +121,7 @@ fn a_run_without_memory_prints_all_or_nothing(rt: HostRuntime) -> Result<(), Fai
         let is_known = is_whole || has_starved && told.is_refused();
         same(&rt, told.said(), (before, is_known), (before, true));
         if !has_starved {
-            same(
-                &rt,
-                "the requests of a run",
-                (before, before >= 10),
-                (before, true),
-            );
+            same(&rt, "requests", (before, before >= 10), (before, true));
             return Ok(());
         }
     }
@@ -167,20 +150,15 @@ fn refused_memory_prints_nothing(rt: HostRuntime) -> Result<(), Fail> {
     let no_table = run(&rt, &mut first);
     let no_thread = show(&rt, &memo, 1, &mut second);
     drop(held);
-    let (first, second) = (
-        told_of(rt.alloc(), no_table, first),
-        told_of(rt.alloc(), no_thread, second),
-    );
+    let first = told_of(rt.alloc(), no_table, first);
+    let second = told_of(rt.alloc(), no_thread, second);
     same_run(&rt, "no table", &first, 1, NO_MEMORY, "");
     same_run(&rt, "no thread", &second, 1, NO_THREAD, "");
     Ok(())
 }
 
 // What a run tells whose writes go to this target.
-fn written<R: Threads + Wait + RandomSource + AllocGlobal + Clock + Sync>(
-    rt: &R,
-    target: &mut Target,
-) -> Result<Told, AllocError> {
+fn written<R: Hosts>(rt: &R, target: &mut Target) -> Result<Told, AllocError> {
     let how = run(rt, target);
     let mut printed = Vec::new(rt.alloc());
     printed.extend_from_slice(target.text())?;
@@ -197,17 +175,9 @@ fn a_failed_write_leaves_a_beginning(rt: HostRuntime) -> Result<(), Fail> {
         let is_beginning = TEXT.as_bytes().starts_with(printed);
         let seen = (fails_at, status, is_beginning, printed.len() < TEXT.len());
         let has_failed = target.has_failed();
-        let (code, why) = if has_failed {
-            (1, "broken pipe\n")
-        } else {
-            (0, "")
-        };
-        same(
-            &rt,
-            "the write that fails, and the run",
-            seen,
-            (fails_at, code, true, has_failed),
-        );
+        let wanted = (fails_at, u8::from(has_failed), true, has_failed);
+        same(&rt, "the write that fails, and the run", seen, wanted);
+        let why = if has_failed { "broken pipe\n" } else { "" };
         same_text(&rt, "what the run says", said, why);
     }
     Ok(())
