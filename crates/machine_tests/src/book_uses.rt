@@ -1,4 +1,5 @@
 //! The uses of `pagebook` at work, most of them by two threads; and the sizes and the lock of `pagebook`.
+ghost use Rattle.pagebook.specs.Pages.{of_book};
 ghost use Rattle.std.specs.Prelude.{◌≡◌};
 
 use crate::same::{same, same_text};
@@ -115,13 +116,13 @@ struct Tally {
 }
 
 impl Keyed for Tally {
-    ghost key_of = { λ t. record { number = t.number; words_name = 0; pages_name = 0; log_name = 0 } };
+    ghost key_of = { λ t. of_book (record { number = t.number; words_name = 0; pages_name = 0; log_name = 0 }) };
 }
 
 // Adds under the lock, whose content keeps its book.
 fn add<J: Key, R: Wait>(rt: &R, lock: &KeyedMutex<Tally>, more: u64) -> u64
     requires { lock.now ≡ J.key }
-    ensures { result ≡ J.key.number }
+    ensures { result ≡ J.key.book.number }
 {
     let mut held = lock.lock::<J, R>(rt);
     held.value.sum = held.value.sum.wrapping_add(more);

@@ -5,10 +5,10 @@ use base.Fml.{Lft, Fml, ffalse}
 use denote.RattleType.{RattleType}
 use denote.RawPtr.{Ptr, block_ptr, null_ptr}
 use Rattle.std.specs.contracts.marker.Brand as Brand
-use Rattle.pagebook.specs.Pages.{Book}
+use Rattle.pagebook.specs.Pages.{LockKey}
 use Rattle.pagebook.specs.contracts.tied.LockOf as LockOf
 
-module _ (R : RattleType) (key_of : R.Denot → Book) (k : Book) where
+module _ (R : RattleType) (key_of : R.Denot → LockKey) (k : LockKey) where
   -- the lock that names k
   abbrev pub lock_of : RattleType
   lock_of = LockOf.the_row R Brand.the_row (record { key_of = key_of }) (record { key = k })

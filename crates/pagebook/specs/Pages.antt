@@ -29,6 +29,30 @@ abbrev pub named_coded : Coded Named
 named_coded = coded_via (coded× book_coded coded_ℕ) (λ (w : Named). (w.book, w.key))
     (λ x y e i. record { book = (e i).0; key = (e i).1 })
 
+-- what a lock's content is known by: the book that it is of, and the numbers about which it promises something
+pub record LockKey : Type 0 where
+  pub book : Book
+  pub about : List ℕ
+
+abbrev pub lock_key_coded : Coded LockKey
+lock_key_coded = coded_via (coded× book_coded (coded_list coded_ℕ)) (λ (k : LockKey). (k.book, k.about))
+    (λ x y e i. record { book = (e i).0; about = (e i).1 })
+
+-- the key of what is of this book, and promises nothing
+abbrev pub of_book : Book → LockKey
+of_book b = record { book = b; about = [] }
+
+-- the key of what is of no book that is ever made, and promises something about these numbers
+abbrev pub of_numbers : List ℕ → LockKey
+of_numbers about = record {
+  book = record { number = 0; words_name = 0; pages_name = 0; log_name = 0 };
+  about = about;
+}
+
+-- two keys are the same
+abbrev pub IsKey : LockKey → LockKey → Type 0
+IsKey j k = (j.book ≡ k.book) × (j.about ≡ k.about)
+
 -- a hand: the pages whose pens are in it, each by its number in the book, with its value
 abbrev pub Held : Type 0 → Type 0
 Held P = List (ℕ × P)

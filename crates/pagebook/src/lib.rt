@@ -27,7 +27,8 @@
 //!   and code that has seen the put gets the value with no test. `Written` is a token that shows for good what it is.
 //! - `Fits` says what is promised of a slot's value when the slot is made. Code that puts the value shows it, and code
 //!   that gets the value knows it, on any thread and without a token.
-//! - `KeyedMutex` is a lock whose content is of a book, as pens are. A clause can name that book, and no type has to.
+//! - `KeyedMutex` is a lock whose content is of a book, as pens are, or promises something about numbers. A clause can
+//!   name both, and no type has to.
 //!
 //! # How a structure is made of it
 //!

@@ -1,25 +1,27 @@
-//! A lock whose content knows of which book it is, while no type names the book.
+//! A lock whose content knows of which book it is and what it promises, while no type names the book.
 //!
 //! What lies under a lock may own pens of a book, or know what was seen of it. Code that takes a lock has to know that
 //! this is the book of its words and tokens. If a type parameter named the book, every struct around the lock would
 //! have it, and nobody could make a book while a program runs. So its name is a value here: a clause sees a
-//! `KeyedMutex` as the `Book` of its content, and the locks of two books have one type.
+//! `KeyedMutex` as the `LockKey` of its content, and the locks of two books have one type. Besides the `book`, a key has
+//! the numbers `about` which the content promises something, as a `Slot` has. `of_book` and `of_numbers` of
+//! `specs/Pages.antt` make a key of one of the two.
 //!
 //! ```text
 //! pub struct Desk { entered: u64, pens: Pens<Page> }
-//! impl Keyed for Desk { ghost key_of = { λ d. d.pens.book }; }        // which book a desk is of
+//! impl Keyed for Desk { ghost key_of = { λ d. of_book d.pens.book }; }        // which book a desk is of
 //!
-//! pub struct Hall { word: Word<Entry, Page, Law>, desk: KeyedMutex<Desk>, ghost same: { desk ≡ word.book } }
+//! pub struct Hall { word: Word<Entry, Page, Law>, desk: KeyedMutex<Desk>, ghost same: { desk.book ≡ word.book } }
 //!
-//! fn locked<J: Key, R: Wait>(rt: &R, hall: &Hall) requires { hall.now.word.book ≡ J.key } {
-//!     let mut held = hall.desk.lock::<J, R>(rt);      // held.value is a Desk, and its pens are of the book J.key
+//! fn locked<J: Key, R: Wait>(rt: &R, hall: &Hall) requires { hall.now.desk ≡ J.key } {
+//!     let mut held = hall.desk.lock::<J, R>(rt);      // held.value is a Desk, and its pens are of the book J.key.book
 //! }
 //! ```
 //!
 //! `J` is a name that stands in one call alone. CALLING.md says how its caller picks it.
 ghost use Rattle.std.specs.Prelude.{◌≡◌};
 ghost use Rattle.pagebook.specs.LockRows.{lock_owns, lock_shares};
-ghost use Rattle.pagebook.specs.Prelude.{Book, book_coded};
+ghost use Rattle.pagebook.specs.Prelude.{LockKey, lock_key_coded};
 
 use crate::tied::{Key, Keyed, LockOf, Tied, opened, sealed};
 use core::mem::replace_with;
@@ -33,9 +35,9 @@ pub struct KeyedMutex<T: Keyed> {
 }
 
 impl<T: Keyed> Owns for KeyedMutex<T> {
-    ghost Value = { Book };
+    ghost Value = { LockKey };
 
-    ghost coded = { book_coded };
+    ghost coded = { lock_key_coded };
 
     ghost shr_at = { λ k p κ. lock_shares T.row T.key_of k p κ };
 }

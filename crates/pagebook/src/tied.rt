@@ -1,23 +1,24 @@
 //! A value that is known to have a key, and a lock of one.
-ghost use Rattle.std.specs.Prelude.{◌≡◌};
-ghost use Rattle.pagebook.specs.Prelude.{Book};
+ghost use Rattle.std.specs.Prelude.{◌≡◌, []};
+ghost use Rattle.pagebook.specs.Prelude.{IsKey, LockKey, of_numbers};
 
 use std::marker::{Brand, PhantomData};
 use std::sync::Mutex;
 
-/// A key: the name of a book. A function that takes a lock has one as a parameter, and its caller's proof picks it.
+/// A key: the name of a book, and numbers. A function that takes a lock has one as a parameter, and its caller's proof
+/// picks it.
 pub trait Key {
-    ghost key: { Book };
+    ghost key: { LockKey };
 }
 
 // What callers write if their proof picks the key. The key that stands here is of no book that is ever made.
 impl Key for Brand {
-    ghost key = { record { number = 0; words_name = 0; pages_name = 0; log_name = 0 } };
+    ghost key = { of_numbers [] };
 }
 
-/// A value that has a key: it is of a book.
+/// A value that has a key: it is of a book, and may promise something about some numbers.
 pub trait Keyed {
-    ghost key_of: { Self → Book };
+    ghost key_of: { Self → LockKey };
 }
 
 /// A value that has the key `J`. A guard leads to one, and code that changes the value leaves it with that key.
@@ -27,7 +28,8 @@ pub struct Tied<T: Keyed, J: Key> {
     pub value: T,
     /// Names the key in the type. It has no bytes.
     pub of: PhantomData<J>,
-    pub ghost fits: { T.key_of value ≡ J.key },
+    pub ghost book_is: { (T.key_of value).book ≡ J.key.book },
+    pub ghost about_is: { (T.key_of value).about ≡ J.key.about },
 }
 
 /// A lock whose type names the key: what a `KeyedMutex` is to code that knows its key.
@@ -38,7 +40,7 @@ pub struct LockOf<T: Keyed, J: Key> {
 }
 
 pub(crate) fn sealed<T: Keyed, J: Key>(value: T) -> Mutex<Tied<T, J>>
-    requires { T.key_of value ≡ J.key }
+    requires { IsKey (T.key_of value) J.key }
 {
     Mutex::new(Tied {
         value,
@@ -47,7 +49,7 @@ pub(crate) fn sealed<T: Keyed, J: Key>(value: T) -> Mutex<Tied<T, J>>
 }
 
 pub(crate) fn opened<T: Keyed, J: Key>(lock: Mutex<Tied<T, J>>) -> T
-    ensures { T.key_of result ≡ J.key }
+    ensures { IsKey (T.key_of result) J.key }
 {
     lock.into_inner().value
 }

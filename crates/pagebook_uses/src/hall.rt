@@ -1,7 +1,7 @@
 // A hall that visitors enter and leave. A word counts those inside, by additions, so nobody waits to leave; the
 // desk at the door counts those that came in, under a lock.
 ghost use Rattle.std.specs.Prelude.{◌≡◌, ℕ, Bool, ◌+◌, ◌-◌, ◌<◌, ◌^◌, true, false, List, [], ◌∷◌, length};
-ghost use Rattle.pagebook.specs.Pages.{Book};
+ghost use Rattle.pagebook.specs.Pages.{Book, of_book};
 ghost use Rattle.pagebook_uses.specs.Hall.{IsKept};
 ghost use Rattle.pagebook_uses.specs.declared.hall.Page.{Page};
 ghost use Rattle.pagebook_uses.specs.declared.hall.Page.TheVariants.{AtDesk};
@@ -85,7 +85,7 @@ pub struct Desk {
 }
 
 impl Keyed for Desk {
-    ghost key_of = { λ d. d.pens.book };
+    ghost key_of = { λ d. of_book d.pens.book };
 }
 
 /// The hall, which threads share.
@@ -95,7 +95,7 @@ pub struct Hall {
     pub desk: KeyedMutex<Desk>,
     pub front: Seen<Arrival, Page, HallRule>,
     pub ghost word_is: { inside.key ≡ 0 },
-    pub ghost desk_is: { desk ≡ inside.book },
+    pub ghost desk_is: { desk.book ≡ inside.book },
     pub ghost front_is: { front.book ≡ inside.book },
 }
 
@@ -226,7 +226,7 @@ impl Desk {
 
 // The same as `visit`, for a caller whose proof names the book.
 fn visit_as<J: Key, R: Wait>(rt: &R, hall: &Hall)
-    requires { hall.now.inside.book ≡ J.key }
+    requires { hall.now.desk ≡ J.key }
 {
     let mut visitor = hall.arrive();
     let mut held = hall.desk.lock::<J, R>(rt);

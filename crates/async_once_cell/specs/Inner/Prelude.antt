@@ -35,6 +35,6 @@ pub use Rattle.once_machine.specs.Word.{flags_of, sees}
 pub use Rattle.once_machine.specs.declared.step.Ending.{Ending}
 pub use Rattle.once_machine.specs.declared.waiters.Answer.{Answer}
 pub use Rattle.once_machine.specs.declared.waiters.Op.{Op}
-pub use Rattle.pagebook.specs.Pages.{Book}
+pub use Rattle.pagebook.specs.Pages.{Book, of_book}
 pub use Rattle.std.specs.Option.{is_some, MatchOption}
 pub use mathlib.Core.List.{IsPrefix}

@@ -1,7 +1,7 @@
 //! What lies under the one lock of a cell, and the moments of a task that has the lock.
 ghost use Rattle.std.specs.Prelude.{◌≡◌, ◌*◌, ◌⊎◌, ℕ, Bool, true, false, List, [], Option, Some, None};
 ghost use Rattle.async_once_cell.specs.Inner.Hands.{own_of};
-ghost use Rattle.async_once_cell.specs.Inner.Prelude.{is_some, Book, Claims, kept_ticket, HasSpace, claimant};
+ghost use Rattle.async_once_cell.specs.Inner.Prelude.{is_some, Book, of_book, Claims, kept_ticket, HasSpace, claimant};
 ghost use Rattle.async_once_cell.specs.Inner.Prelude.{listings_of, flags_of, sees, more_released, CanNote, IsLoading};
 ghost use Rattle.async_once_cell.specs.Inner.Prelude.{Moment, Tells, IsWord, IsDesk, desked, IsDesked, desk_sheets};
 ghost use Rattle.async_once_cell.specs.Inner.Prelude.{first_desk, DoorPut, Section as SectionCall, DoorGet, DoorTake};
@@ -56,7 +56,7 @@ impl<W: TaskWaker> Model for Desk<W> {
 }
 
 impl<W: TaskWaker> Keyed for Desk<W> {
-    ghost key_of = { λ d. d };
+    ghost key_of = { of_book };
 }
 
 impl<W: TaskWaker + Drop> Desk<W> {
@@ -367,7 +367,7 @@ fn mark_release(word: &CellWord, desk: &mut CellPens, hand: &mut Hand, ready: bo
 impl<T, W: TaskWaker + Drop, V: Fits<T>> Inner<T, W, V> {
     pub(super) fn lock_and_get<J: Key, R: Wait>(&self, rt: &R, hand: &mut Hand) -> bool
         requires key { self.now.desk ≡ J.key }
-        requires book { hand.old.seen.book ≡ J.key }
+        requires book { hand.old.seen.book ≡ J.key.book }
         requires can { call_in (own_of hand.old).task.step ≡ DoorGet }
         ensures book { hand.new.seen.book ≡ hand.old.seen.book }
         ensures did { (q : ℕ) × Went (own_of hand.old) (Got (numbered q result)) [] (own_of hand.new) }
@@ -383,7 +383,7 @@ impl<T, W: TaskWaker + Drop, V: Fits<T>> Inner<T, W, V> {
         queue: Box<Lists<W>>,
     ) -> Option<Box<Lists<W>>>
         requires key { self.now.desk ≡ J.key }
-        requires book { hand.old.seen.book ≡ J.key }
+        requires book { hand.old.seen.book ≡ J.key.book }
         requires queue { (queue.value.head ≡ false) × (listings_of queue.value ≡ []) }
         requires can { call_in (own_of hand.old).task.step ≡ DoorPut }
         ensures book { hand.new.seen.book ≡ hand.old.seen.book }
@@ -402,7 +402,7 @@ impl<T, W: TaskWaker + Drop, V: Fits<T>> Inner<T, W, V> {
         hand: &mut Hand,
     ) -> Option<Box<Lists<W>>>
         requires key { self.now.desk ≡ J.key }
-        requires book { hand.old.seen.book ≡ J.key }
+        requires book { hand.old.seen.book ≡ J.key.book }
         requires can { call_in (own_of hand.old).task.step ≡ DoorTake }
         ensures book { hand.new.seen.book ≡ hand.old.seen.book }
         ensures did { (b : Bool) → Went (own_of hand.old) (Taken b) [] (own_of hand.new) }
@@ -419,7 +419,7 @@ impl<T, W: TaskWaker + Drop, V: Fits<T>> Inner<T, W, V> {
         op: &mut Op<W>,
     ) -> (Answer<W>, Option<W>)
         requires key { self.now.desk ≡ J.key }
-        requires book { hand.old.seen.book ≡ J.key }
+        requires book { hand.old.seen.book ≡ J.key.book }
         requires can { CanCall W.whose (own_of hand.old).task.step (SectionCall tt op.old) }
         ensures book { hand.new.seen.book ≡ hand.old.seen.book }
         ensures did { DidCall W.whose (own_of hand.old) (Was tt op.old result.0 op.new) (own_of hand.new) }

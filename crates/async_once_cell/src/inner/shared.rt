@@ -55,7 +55,7 @@ pub struct Inner<T, W: TaskWaker, V: Fits<T> = Anything> {
     ghost word_is: { IsWord word front.book 0 },
     ghost put_is: { IsWord has_put front.book 1 },
     ghost slot_is: { (slot.book ≡ front.book) × (slot.key ≡ 2) },
-    ghost desk_is: { desk ≡ front.book },
+    ghost desk_is: { desk.book ≡ front.book },
 }
 
 impl<T, W: TaskWaker + Drop> Inner<T, W> {

@@ -360,7 +360,7 @@ impl<T, W: TaskWaker + Drop, R: Wait + AllocGlobal, V: Fits<T>> Shared<'_, '_, T
 impl<T, W: TaskWaker + Drop, V: Fits<T>> Inner<T, W, V> {
     fn lock_at_release<J: Key, R: Wait>(&self, rt: &R, hand: &mut Hand, ready: bool) -> Out<W>
         requires key { self.now.desk ≡ J.key }
-        requires book { hand.old.seen.book ≡ J.key }
+        requires book { hand.old.seen.book ≡ J.key.book }
         requires can { CanCall W.whose (own_of hand.old).task.step (Section tt (Op.Release ready)) }
         ensures book { hand.new.seen.book ≡ hand.old.seen.book }
         ensures did { DidCall W.whose (own_of hand.old)
@@ -379,7 +379,7 @@ impl<T, W: TaskWaker + Drop, V: Fits<T>> Inner<T, W, V> {
         side: &S,
     ) -> Option<Out<W>>
         requires key { self.now.desk ≡ J.key }
-        requires book { hand.old.seen.book ≡ J.key }
+        requires book { hand.old.seen.book ≡ J.key.book }
         requires stands { IsUnder W.whose S.state (Place.DoorAgain ending) hand.old side.now }
         ensures book { hand.new.seen.book ≡ hand.old.seen.book }
         ensures leads { MatchOption result

@@ -27,7 +27,8 @@ use mathlib.Core.List.{◌++◌}
 use Rattle.pagebook.specs.contracts.tied.Tied as T-row
 use Rattle.pagebook.specs.contracts.tied.LockOf as L-row
 use denote.Model.Placed.{some_Along}
-use Rattle.pagebook.specs.Pages.{book_coded}
+use base.Stored.{coded_list, coded_ℕ}
+use Rattle.pagebook.specs.Pages.{LockKey, book_coded}
 use Rattle.pagebook.specs.declared.tied.Keyed as Keyed
 use Rattle.pagebook.specs.declared.tied.Key as Key
 use Rattle.pagebook.specs.declared.tied.Tied.{Tied}
@@ -35,19 +36,29 @@ use Rattle.pagebook.specs.declared.tied.Tied.{Tied}
 module _ (X Y Z : Type 0) (g : Keyed.Ghosts X) (h : Key.Ghosts Y) (k : Key.Ghosts Z) (e : h.key ≡ k.key) where
   -- a value that has the key of the one has that of the other
   abbrev pub there : Tied X Y g h → Tied X Z g k
-  there t = record { value = t.value; of = record {}; fits = t.fits ∙ e }
+  there t = record {
+    value = t.value;
+    of = record {};
+    book_is = t.book_is ∙ ap (λ (k : LockKey). k.book) e;
+    about_is = t.about_is ∙ ap (λ (k : LockKey). k.about) e;
+  }
 
   -- and the other way round
   abbrev pub back : Tied X Z g k → Tied X Y g h
-  back t = record { value = t.value; of = record {}; fits = t.fits ∙ sym e }
+  back t = record {
+    value = t.value;
+    of = record {};
+    book_is = t.book_is ∙ ap (λ (k : LockKey). k.book) (sym e);
+    about_is = t.about_is ∙ ap (λ (k : LockKey). k.about) (sym e);
+  }
 
   -- there and back is the same value
   pub there-back : (t : Tied X Z g k) → there (back t) ≡ t
   there-back t = λ i. record {
     value = t.value;
     of = record {};
-    fits = Coded-set book_coded _ _
-        ((t.fits ∙ sym e) ∙ e) t.fits i;
+    book_is = Coded-set book_coded _ _ (there (back t)).book_is t.book_is i;
+    about_is = Coded-set (coded_list coded_ℕ) _ _ (there (back t)).about_is t.about_is i;
   }
 
   -- back and there too
@@ -55,8 +66,8 @@ module _ (X Y Z : Type 0) (g : Keyed.Ghosts X) (h : Key.Ghosts Y) (k : Key.Ghost
   back-there t = λ i. record {
     value = t.value;
     of = record {};
-    fits = Coded-set book_coded _ _
-        ((t.fits ∙ e) ∙ sym e) t.fits i;
+    book_is = Coded-set book_coded _ _ (back (there t)).book_is t.book_is i;
+    about_is = Coded-set (coded_list coded_ℕ) _ _ (back (there t)).about_is t.about_is i;
   }
 
   -- so the two types have the same values

@@ -94,7 +94,7 @@ impl<T, W: TaskWaker + Drop, V: Fits<T>> Inner<T, W, V> {
         side: &mut S,
     ) -> Reached
         requires key { self.now.desk ≡ J.key }
-        requires book { hand.old.seen.book ≡ J.key }
+        requires book { hand.old.seen.book ≡ J.key.book }
         requires stands { IsUnder W.whose S.state Place.DoorGet hand.old side.old }
         requires spent { spent.old ≡ None }
         ensures book { hand.new.seen.book ≡ hand.old.seen.book }
@@ -118,7 +118,7 @@ impl<T, W: TaskWaker + Drop, V: Fits<T>> Inner<T, W, V> {
         side: &mut S,
     ) -> (Reached, Option<Box<Lists<W>>>)
         requires key { self.now.desk ≡ J.key }
-        requires book { hand.old.seen.book ≡ J.key }
+        requires book { hand.old.seen.book ≡ J.key.book }
         requires queue { (queue.value.head ≡ false) × (listings_of queue.value ≡ []) }
         requires stands { IsUnder W.whose S.state Place.DoorPut hand.old side.old }
         requires spent { spent.old ≡ None }
@@ -188,7 +188,7 @@ impl<T, W: TaskWaker + Drop, V: Fits<T>> Inner<T, W, V> {
         side: &mut S,
     ) -> Reached
         requires key { self.now.desk ≡ J.key }
-        requires book { hand.old.seen.book ≡ J.key }
+        requires book { hand.old.seen.book ≡ J.key.book }
         requires stands { IsUnder W.whose S.state (Place.Look tt ticket) hand.old side.old }
         requires spent { spent.old ≡ None }
         ensures book { hand.new.seen.book ≡ hand.old.seen.book }

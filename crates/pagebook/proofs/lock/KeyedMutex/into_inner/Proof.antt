@@ -18,7 +18,7 @@ use contract.Running.{tables}
 use denote.Exit.{no}
 use denote.RattleType.{RattleType, owns}
 use denote.Signature.{types_at, plain}
-use denote.Steps.{nothing, peeks}
+use denote.Steps.{heard, nothing, peeks}
 use denote.Laws.{Is, shows, Typed}
 use denote.Memory.{lone}
 use denote.Param.{param, bounded}
@@ -37,6 +37,8 @@ use Rattle.pagebook.proofs.Locks.Marker.{marker, marker_laws, dict}
 use Rattle.pagebook.specs.contracts.tied.Tied as T-row
 use Rattle.pagebook.proofs.tied.Tied.TheLaws as T-laws
 use Rattle.pagebook.specs.declared.tied.Key as Key
+use Rattle.pagebook.specs.Pages.{IsKey}
+use Rattle.pagebook.proofs.Locks.Keys.{same_key}
 use Rattle.pagebook.specs.contracts.tied.opened as callee
 use Rattle.pagebook.proofs.tied.opened.Met.{met}
 use Rattle.pagebook.specs.contracts.lock.KeyedMutex.{the_row}
@@ -88,10 +90,12 @@ into_inner_spec 𝓤 𝓛 𝓜 𝓡 wired T L g gd gm =
     ((‵ (flft κ q) ⊛ ‵ (flft [] full_share) ⊛ ‵ ftrue) ⊛ ‵ (R.own_val r (u ∷ [])))
     ⊛ some (λ (ls : Lasts (callee.ended T marker g gd h dict) y.0.0 y.0.3). ‵
     (lasts (callee.ended T marker g gd h dict) y.0.0 y.0.3 ls)
-    ⊛ raw (fact 𝓤 (g.key_of r ≡ d)))))) (id⊢ 𝓤 (k.post y u)) $
-    await ! tt $ pick ! (λ r. split ! $ move ! (1 ∷ []) $ pick ! (λ ls. split ! $ drop ! $ move ! (1 ∷ []) $
+    ⊛ raw (fact 𝓤 (IsKey (g.key_of r) d)))))) (id⊢ 𝓤 (k.post y u)) $
+    await ! tt $ pick ! (λ r. split ! $ move ! (1 ∷ []) $ pick ! (λ ls. split ! $ drop ! $
+    heard ! (IsKey (g.key_of r) d) (λ is. let e : g.key_of r ≡ d = same_key is in
+    use0 𝓛 (raw (fact 𝓤 (g.key_of r ≡ d))) (fact_i 𝓤 (g.key_of r ≡ d) (emp 𝓤) e) $ move ! (1 ∷ []) $
     split ! $ split ! $ move ! (1 ∷ []) $ drop ! $ nothing ! $ move ! (1 ∷ 0 ∷ []) $ join ! $ move ! (1 ∷ []) $
     peeks ! R (Is R) (shows 𝓛 R) r (u ∷ []) (λ is-r. lands_as ! refl refl
     (((param_laws 0 T L).lawful 𝓛).typed r (u ∷ []) is-r).0 $ nothing ! $ nothing ! $ fjoin ! $
     returns ! (look_at ! 0 refl) $ free_all ! refl $ keep ! (2 ∷ 0 ∷ 1 ∷ 3 ∷ []) $
-    by ! (leaves 𝓛 En hs c z u r (tt, tt) (tt, tt))))))))))))
+    by ! (leaves 𝓛 En hs c z u r (tt, tt) (tt, tt)))))))))))))

@@ -41,6 +41,7 @@ use Rattle.pagebook.proofs.tied.Tied.TheLaws as T-laws
 use Rattle.pagebook.specs.contracts.tied.LockOf as L-row
 use Rattle.pagebook.proofs.tied.LockOf.TheLaws as L-laws
 use Rattle.pagebook.specs.declared.tied.Key as Key
+use Rattle.pagebook.specs.Pages.{IsKey}
 use Rattle.pagebook.specs.contracts.tied.sealed as callee
 use Rattle.pagebook.proofs.tied.sealed.Met.{met}
 use Rattle.pagebook.specs.contracts.lock.KeyedMutex.{the_row}
@@ -76,7 +77,7 @@ new_spec 𝓤 𝓛 𝓜 𝓡 wired T L g gd gm =
     rewrite ! 0 (λ (ws : List Val). ‵ (R.own_val v ws)) got.1 refl $
     use0 𝓛 (‵ (flft [] full_share)) (𝓛.lfts.lft-nil full_share) $ nothing ! $ move ! (1 ∷ 0 ∷ []) $
     join ! $ move ! (3 ∷ 0 ∷ []) $ join ! $ move ! (1 ∷ 2 ∷ []) $ fjoin ! $ move ! (1 ∷ 0 ∷ []) $ join ! $
-    use0 𝓛 (raw (fact 𝓤 (g.key_of v ≡ h.key))) (fact_i 𝓤 (g.key_of v ≡ h.key) (emp 𝓤) refl) $
+    use0 𝓛 (raw (fact 𝓤 (IsKey (g.key_of v) h.key))) (fact_i 𝓤 (IsKey (g.key_of v) h.key) (emp 𝓤) (refl, refl)) $
     use0 𝓛 (raw (fact 𝓤 ([] ⊑ []))) (fact_i 𝓤 ([] ⊑ []) (emp 𝓤) (⊑_static [])) $ join ! $ move ! (2 ∷ 0 ∷ []) $
     join ! $ move ! (1 ∷ 0 ∷ []) $ join ! $ use1 𝓛 (raw (k.pre y)) (id⊢ 𝓤 _) $
     suffices ! (Run (w ∷ [])) (subst (λ (ws : List Val). ent 𝓤 (Run (w ∷ [])) (Run ws)) (sym (λ i. got.1 i ++ []))
