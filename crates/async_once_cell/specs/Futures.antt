@@ -7,7 +7,7 @@ use Rattle.async_once_cell.specs.declared.once.future.FutureState.TheVariants.{A
 use Rattle.async_once_cell.specs.declared.once.future.FutureState.TheVariants.{Left as StateLeft}
 use Rattle.async_once_cell.specs.declared.once.future.FutureState.TheVariants.{Shared as StateShared}
 use Rattle.async_once_cell.specs.Inits.{InitFits}
-use Rattle.async_once_cell.specs.Views.{CellView, FutureView, Owned, Shared, about_of}
+use Rattle.async_once_cell.specs.Views.{CellView, FutureView, Owned, Shared, about_of, is_shared}
 
 module _ {T I R V : Type 0} where
   -- its task's number
@@ -72,6 +72,7 @@ module _ {T I R V : Type 0} where
     gave = gave_of a;
   }
 
--- each value that the init of a future may give fits what is promised of the value of its cell
+-- each value that the init of a future may give fits what is promised of the value of its cell. Of one that has its
+-- owner's value nothing is promised
 abbrev pub KeepsPromise : {T I : Type 0} → (I → T → Type 0) → (List ℕ → T → Type 0) → FutureView T I → Type 0
-KeepsPromise may_give fits f = InitFits may_give fits f.init (about_of f.cell)
+KeepsPromise may_give fits f = is_shared f.cell ≡ true → InitFits may_give fits f.init (about_of f.cell)

@@ -22,6 +22,7 @@ pub use Rattle.once_machine.specs.Called.{SomebodyCalled}
 pub use Rattle.once_machine.specs.Record.{Begin, DropBegin, DropEnd, Entry, Made, Once}
 pub use Rattle.once_machine.specs.Run.{AtEvery, IsRun, NobodyForgotten}
 pub use Rattle.once_machine.specs.declared.step.Ending.{Ending}
+pub use Rattle.pagebook.specs.Pages.{of_numbers}
 pub use Rattle.std.specs.Borrow.{Bor, LendsIf, sem}
 pub use Rattle.std.specs.IoError.{error_kind}
 pub use Rattle.std.specs.Option.{is_some, option_or}

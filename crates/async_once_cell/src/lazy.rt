@@ -1,20 +1,19 @@
 //! A cell that owns the future that fills it.
-ghost use Rattle.std.specs.Prelude.{◌≡◌, ℕ, IfOk, IfSome, IsSome, List, None, false, true};
+ghost use Rattle.std.specs.Prelude.{◌≡◌, IfOk, IfSome, IsSome, None, false, true};
 ghost use Rattle.async_once_cell.specs.Prelude.{Gives, IsSetIn, Learns, Lends, Looks, result_ok, is_some, IsMade};
 ghost use Rattle.async_once_cell.specs.Prelude.{Owned, about_of, is_shared, CellView};
 
 mod future;
 
-use crate::inner::Pollable;
 use crate::once::{Initializing, Known, OnceCell, Told};
 use boxcar::tag::Tag;
 use future::{Driven, Promised};
 pub use future::{LazyFuturePin, LazyFutureUnpin};
 use futures::Future;
-use pagebook::{Anything, Fits};
+use pagebook::{Anything, Fits, KeyedMutex};
 use std::alloc::AllocGlobal;
-use std::marker::{Model, PhantomData};
-use std::sync::{Mutex, Wait};
+use std::marker::Model;
+use std::sync::Wait;
 use std::{fmt, mem};
 
 /// A cell that is filled by one future of its own. The task that holds the right drives that future on. If that task
@@ -31,13 +30,15 @@ use std::{fmt, mem};
 pub struct Lazy<T, F: Future, V: Fits<T> + Fits<F::Output> = Anything> {
     pub(crate) cell: OnceCell<T, V>,
     // Without a future while that is polled, and once it gave its value.
-    future: Mutex<Promised<F, V>>,
+    future: KeyedMutex<Promised<F, V>>,
 }
 
 impl<T, F: Future, V: Fits<T> + Fits<F::Output>> Model for Lazy<T, F, V> {
     ghost Value = { CellView T };
 
     ghost view = { λ l. l.cell };
+
+    ghost invariant = { λ l. is_shared l.cell ≡ true → l.future.about ≡ about_of l.cell };
 }
 
 impl<T, F: Future<Output = T>> Lazy<T, F> {
@@ -46,7 +47,7 @@ impl<T, F: Future<Output = T>> Lazy<T, F> {
         requires { F.can_poll future }
         ensures { is_shared result ≡ true }
     {
-        Lazy::promised(future)
+        Lazy::promised(&Tag::empty(), future)
     }
 
     /// As [`Lazy::new`].
@@ -63,26 +64,28 @@ impl<T, F: Future<Output = T>> Lazy<T, F> {
     {
         Lazy {
             cell: OnceCell::new_with(value),
-            future: Mutex::new(Promised(None, PhantomData)),
+            future: KeyedMutex::new(Promised::none(Tag::empty())),
         }
     }
 }
 
 impl<T, F: Future<Output = T>, V: Fits<T>> Lazy<T, F, V> {
-    /// A cell that this future will fill, and that promises its value: it fits, as `V` says, whatever the numbers are
-    /// about which `V` speaks. A caller that is told the value knows this, on any thread, without a token.
+    /// A cell that this future will fill, and that promises its value: it fits, as `V` says of it and of the numbers of
+    /// the tag. A caller that is told the value knows this, on any thread, without a token. See
+    /// [`OnceCell::promised`].
     ///
     /// ```
-    /// let lazy = Lazy::<u64, Twice, IsEven>::promised(Twice { half: 21 });
+    /// let lazy = Lazy::<u64, Fetch, TenTimes>::promised(&Tag::of::<u64, Key>(&key), Fetch { key });
     /// ```
-    pub fn promised(future: F) -> Self
+    pub fn promised(tag: &Tag, future: F) -> Self
         requires can { F.can_poll future }
-        requires fits { (about : List ℕ) → (v : T) → F.gives future v → V.fits about v }
-        ensures { is_shared result ≡ true }
+        requires fits { (v : T) → F.gives future v → V.fits tag.now.numbers v }
+        ensures shared { is_shared result ≡ true }
+        ensures about { about_of result ≡ tag.now.numbers }
     {
         Lazy {
-            cell: OnceCell::promised(&Tag::empty()),
-            future: Mutex::new(Promised(Some(Pollable::new(future)), PhantomData)),
+            cell: OnceCell::promised(tag),
+            future: KeyedMutex::new(Promised::new(future, tag)),
         }
     }
 
@@ -195,7 +198,7 @@ impl<T, F: Future<Output = T>, V: Fits<T>> Lazy<T, F, V> {
     {
         match self.cell.into_inner() {
             Some(value) => Ok(value),
-            None => Err(self.future.into_inner().0.map(Pollable::into_inner)),
+            None => Err(self.future.into_inner().into_future()),
         }
     }
 

@@ -3,6 +3,7 @@ ghost use Rattle.std.specs.Prelude.{◌≡◌, ◌*◌, ◌^◌, ◌<◌, ℕ, f
 ghost use Rattle.async_once_cell.specs.Prelude.{HasLeft, IfValue, IsSetIn, IsValue, is_shared};
 
 use async_once_cell::{Known, Lazy, LazyFuturePin, Refused};
+use boxcar::tag::Tag;
 use futures::future::{Ready, ready};
 use futures::task::{Context, Poll};
 use pagebook::Fits;
@@ -23,7 +24,7 @@ pub fn twice(half: u64) -> Lazy<u64, Ready<u64>, IsEven>
     requires { half * 2 < 2 ^ 64 }
     ensures { is_shared result ≡ true }
 {
-    Lazy::promised(ready(half * 2))
+    Lazy::promised(&Tag::empty(), ready(half * 2))
 }
 
 /// A wait with a token, which knows the value that is answered.

@@ -100,6 +100,7 @@ where
     print(rt, "what an owner was told and has", owner::ask_twice(rt))?;
     print(rt, "the same of a lazy cell", lazy::ask(rt))?;
     print(rt, "even", promised::ask(rt))?;
+    print(rt, "a lazy value of a key", promised::ask_by_key(rt))?;
     print(rt, "told once another left", leaves::ask(rt))?;
     print(rt, "a lazy cell over another, by type", layers::ask(rt))?;
     print(rt, "told no value", refusals::ask(rt))

@@ -1,11 +1,11 @@
-//! Cells that promise an even value. So callers that have no token know what they are told, on any thread. A promise
-//! may also speak of a key: see `table` of `memo_table`.
-ghost use Rattle.std.specs.Prelude.{◌≡◌, ◌*◌, ◌^◌, ◌<◌, ℕ, true, IfOk, IfSome};
-ghost use Rattle.async_once_cell.specs.Views.{is_shared};
+//! Cells that promise an even value, and a lazy cell that promises ten times a key. So callers that have no token know
+//! what they are told, on any thread. A table of such cells is `table` of `memo_table`.
+ghost use Rattle.std.specs.Prelude.{◌≡◌, ◌*◌, ◌^◌, ◌<◌, ℕ, true, IfOk, IfSome, List, [], ◌∷◌};
+ghost use Rattle.async_once_cell.specs.Views.{about_of, is_shared};
 
 use crate::fault::Fault;
 use async_once_cell::{Lazy, OnceCell};
-use boxcar::tag::Tag;
+use boxcar::tag::{Names, Tag};
 use futures::Future;
 use futures::task::{Context, Poll};
 use pagebook::Fits;
@@ -103,6 +103,61 @@ where
 {
     let cell = OnceCell::<u64, IsEven>::promised(&Tag::empty());
     let (told, _) = asked_and_looked(rt, &cell, 35);
-    let lazy = Lazy::<u64, Twice, IsEven>::promised(Twice { half: 21 });
+    let lazy = Lazy::<u64, Twice, IsEven>::promised(&Tag::empty(), Twice { half: 21 });
     Ok((told?, even(rt, &lazy)?))
+}
+
+/// What is promised of a value is about its key.
+struct Key;
+
+impl Names<u64> for Key {
+    ghost numbers = { λ key. key ∷ [] };
+}
+
+/// Promises ten times the key.
+struct TenTimes;
+
+impl Fits<u64> for TenTimes {
+    ghost fits = { λ about value. (key : ℕ) → about ≡ key ∷ [] → value ≡ key * 10 };
+}
+
+/// A future that gives ten times a key.
+#[derive(Drop)]
+struct Fetch {
+    key: u64,
+    ghost small: { key * 10 < 2 ^ 64 },
+}
+
+impl Future for Fetch {
+    type Output = u64;
+
+    ghost gives = { λ fetch value. value ≡ fetch.key * 10 };
+
+    fn poll(&mut self, _cx: &mut Context<'_>) -> Poll<u64> {
+        Poll::Ready(self.key * 10)
+    }
+}
+
+/// The value of the lazy cell of a key, over any future: ten times the key.
+fn value_of<F, R>(rt: &R, lazy: &Lazy<u64, F, TenTimes>, key: u64) -> Result<u64, Fault>
+where
+    F: Future<Output = u64>,
+    R: Wait + RandomSource + AllocGlobal,
+    requires shared { is_shared lazy.now ≡ true }
+    requires about { about_of lazy.now ≡ key ∷ [] }
+    ensures { IfOk result (λ value. value ≡ key * 10) }
+{
+    let _ = key;
+    Ok(*lazy.get(rt).wait()??)
+}
+
+/// What the lazy cell of the key 7 gives.
+pub fn ask_by_key<R>(rt: &R) -> Result<u64, Fault>
+where
+    R: Wait + RandomSource + AllocGlobal,
+    ensures { IfOk result (λ value. value ≡ 70) }
+{
+    let key = 7;
+    let lazy = Lazy::<u64, Fetch, TenTimes>::promised(&Tag::of::<u64, Key>(&key), Fetch { key });
+    value_of(rt, &lazy, key)
 }

@@ -7,18 +7,19 @@ ghost use Rattle.async_once_cell.specs.Prelude.{PollsOnce, WasFilled, option_or,
 ghost use Rattle.async_once_cell.specs.Prelude.{Keeps, IsPrefix, Agrees, IsSetIn, about_of, is_shared, MayGive};
 ghost use Rattle.async_once_cell.specs.Prelude.{entries_of, most, end_of, SomebodyCalled, Once, AtEvery, IsRun};
 ghost use Rattle.async_once_cell.specs.Prelude.{NobodyForgotten, AnswersFit, AnswersLate, IfFailure, SawEnd};
-ghost use Rattle.async_once_cell.specs.Prelude.{IsHolderIn};
+ghost use Rattle.async_once_cell.specs.Prelude.{IsHolderIn, of_numbers};
 
 use crate::error::Refused;
 use crate::inner::{Failed, Hand, Init, Pollable, Yields};
 use crate::once::{Initializing, Known, Parker};
+use boxcar::tag::{Names, Tag};
 use futures::Future;
 use futures::task::{Context, Poll};
-use pagebook::{Anything, Fits};
+use pagebook::{Anything, Fits, Key, Keyed, KeyedMutex};
 use std::alloc::AllocGlobal;
-use std::marker::{Model, PhantomData};
+use std::marker::{Brand, Model, PhantomData};
 use std::random::RandomSource;
-use std::sync::{Mutex, MutexGuard, Wait};
+use std::sync::Wait;
 use std::{fmt, io, mem};
 
 /// Future of [`Lazy::get`](crate::Lazy::get). A poll answers the value that is set. While none is set, the task that
@@ -291,38 +292,98 @@ impl<T, F: Future, R: Wait + AllocGlobal, V: Fits<T> + Fits<F::Output>> fmt::Deb
     }
 }
 
-/// What a cell keeps of its future, if that is there: it gives no value but such as fit what the cell promises.
+/// What a cell keeps of its future, if that is there: it gives no value but such as fit what is promised about the
+/// numbers of the tag. A clause sees the future, and those numbers.
 #[derive(Drop)]
-pub(super) struct Promised<F: Future, V: Fits<F::Output>>(
-    pub(super) Option<Pollable<F>>,
-    pub(super) PhantomData<V>,
-);
+pub(super) struct Promised<F: Future, V: Fits<F::Output>> {
+    future: Option<Pollable<F>>,
+    about: Tag,
+    promise: PhantomData<V>,
+}
 
 impl<F: Future, V: Fits<F::Output>> Model for Promised<F, V> {
-    ghost Value = { Option F };
+    ghost Value = { Option F × List ℕ };
 
-    ghost view = { λ p. p.0 };
+    ghost view = { λ p. (p.future, p.about.numbers) };
 
-    ghost invariant = { λ p. (v : F.Output) → MayGive F.gives p.0 v → (about : List ℕ) → V.fits about v };
+    ghost invariant = { λ p. (v : F.Output) → MayGive F.gives p.future v → V.fits p.about.numbers v };
+}
+
+impl<F: Future, V: Fits<F::Output>> Keyed for Promised<F, V> {
+    ghost key_of = { λ p. of_numbers p.1 };
+}
+
+/// The numbers about which something is promised.
+pub(super) struct Numbers;
+
+impl<F: Future, V: Fits<F::Output>> Names<Promised<F, V>> for Numbers {
+    ghost numbers = { λ p. p.1 };
+}
+
+impl Names<Tag> for Numbers {
+    ghost numbers = { λ tag. tag.numbers };
+}
+
+impl<F: Future, V: Fits<F::Output>> Promised<F, V> {
+    /// This future, whose values fit what is promised about the numbers of the tag.
+    pub(super) fn new(future: F, tag: &Tag) -> Self
+        requires can { F.can_poll future }
+        requires fits { (v : F.Output) → F.gives future v → V.fits tag.now.numbers v }
+        ensures { result.1 ≡ tag.now.numbers }
+    {
+        Promised {
+            future: Some(Pollable::new(future)),
+            about: Tag::of::<Tag, Numbers>(tag),
+            promise: PhantomData,
+        }
+    }
+
+    /// No future.
+    pub(super) fn none(about: Tag) -> Self
+        ensures { result ≡ (None, about.numbers) }
+    {
+        Promised {
+            future: None,
+            about,
+            promise: PhantomData,
+        }
+    }
+
+    /// The future, if it is there.
+    pub(super) fn into_future(self) -> Option<F> {
+        self.future.map(Pollable::into_inner)
+    }
+
+    // Leaves no future.
+    #[inline(always)]
+    fn take(&mut self) -> Self
+        ensures left { self.new ≡ (None, self.old.1) }
+        ensures taken { result ≡ self.old }
+    {
+        let about = Tag::of::<Self, Numbers>(self);
+        mem::replace(self, Promised::none(about))
+    }
 }
 
 // The future of a cell, as the task that holds the right drives it on. To drop this leaves it as it is.
 #[derive(Drop)]
 pub(crate) struct Driven<'a, F: Future, R, V: Fits<F::Output>> {
     pub(super) rt: &'a R,
-    pub(super) future: &'a Mutex<Promised<F, V>>,
+    pub(super) future: &'a KeyedMutex<Promised<F, V>>,
 }
 
 impl<F: Future, R: Wait, V: Fits<F::Output>> Driven<'_, F, R, V> {
     // Only the task that has the right takes the future out, and it puts it back before it gives the right back. So it
     // is there at the first look. No clause says so, and hence a look that missed it would look again.
     #[inline(always)]
-    fn take_out(&self) -> Promised<F, V>
-        ensures { IsSome result }
+    fn take_out<J: Key>(&self) -> Promised<F, V>
+        requires { self.now.future.now ≡ J.key }
+        ensures some { IsSome result.0 }
+        ensures about { result.1 ≡ J.key.about }
     {
         for _ in self.rt.forever() {
-            let kept = mem::replace(&mut *self.locked(), Promised(None, PhantomData));
-            if kept.0.is_some() {
+            let kept = self.future.lock::<J, R>(self.rt).value.take();
+            if kept.future.is_some() {
                 return kept;
             }
         }
@@ -330,24 +391,16 @@ impl<F: Future, R: Wait, V: Fits<F::Output>> Driven<'_, F, R, V> {
     }
 
     #[inline(always)]
-    fn put_back(&self, future: Option<Pollable<F>>)
-        requires { (v : F.Output) → MayGive F.gives future v → (about : List ℕ) → V.fits about v }
+    fn put_back<J: Key>(&self, kept: Promised<F, V>)
+        requires key { self.now.future.now ≡ J.key }
+        requires about { kept.1 ≡ J.key.about }
     {
-        *self.locked() = Promised(future, PhantomData);
-    }
-
-    // The lock is mostly free: then this makes no call, as `lock` would.
-    #[inline(always)]
-    fn locked(&self) -> MutexGuard<'_, Promised<F, V>> {
-        match self.future.try_lock() {
-            Some(held) => held,
-            None => self.future.lock(self.rt),
-        }
+        self.future.lock::<J, R>(self.rt).value = kept;
     }
 }
 
 impl<T, F: Future, R, V: Fits<T> + Fits<F::Output>> Yields<T, Refused> for Driven<'_, F, R, V> {
-    ghost may_give = { λ _ v. (about : List ℕ) → V.Fits-1.fits about v };
+    ghost may_give = { λ d v. V.Fits-1.fits d.future.now.about v };
 }
 
 impl<T, F: Future<Output = T>, R: Wait, V: Fits<T>> Init<T, Refused> for Driven<'_, F, R, V> {
@@ -361,9 +414,18 @@ impl<T, F: Future<Output = T>, R: Wait, V: Fits<T>> Init<T, Refused> for Driven<
         right: &mut Hand,
     ) -> Poll<Result<T, Failed<Refused>>> {
         let Some(driven) = init else { unreachable!() };
-        let Promised(mut future, _) = driven.take_out();
+        let Promised {
+            mut future,
+            about,
+            promise: _,
+        } = driven.take_out::<Brand>();
         let polled = <Pollable<F> as Init<T, Refused>>::poll_init(&mut future, cx, right);
-        driven.put_back(future);
+        let kept = Promised {
+            future,
+            about,
+            promise: PhantomData,
+        };
+        driven.put_back::<Brand>(kept);
         polled
     }
 }

@@ -78,7 +78,7 @@ impl<'a, T, X, I: Yields<T, X>, R: Wait + AllocGlobal, V: Fits<T>> Model
 impl<'a, T, X, I: Yields<T, X>, R: Wait + AllocGlobal, V: Fits<T>> Initializing<'a, T, X, I, R, V> {
     #[inline(always)]
     pub(crate) fn new(cell: &'a OnceCell<T, V>, rt: &'a R, init: I) -> Self
-        requires fits { (v : T) → I.may_give init v → V.fits (about_of cell.now) v }
+        requires fits { is_shared cell.now ≡ true → (v : T) → I.may_give init v → V.fits (about_of cell.now) v }
         ensures cell { result.cell ≡ cell.now }
         ensures live { result.finished ≡ false }
         ensures made { IsMade result }
