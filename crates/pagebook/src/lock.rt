@@ -3,8 +3,8 @@
 //! What lies under a lock may own pens of a book, or know what was seen of it. Code that takes a lock has to know that
 //! this is the book of its words and tokens. If a type parameter named the book, every struct around the lock would
 //! have it, and nobody could make a book while a program runs. So its name is a value here: a clause sees a
-//! `KeyedMutex` as the `LockKey` of its content, and the locks of two books have one type. Besides the `book`, a key has
-//! the numbers `about` which the content promises something, as a `Slot` has. `of_book` and `of_numbers` of
+//! `KeyedMutex` as the `LockKey` of its content, and the locks of two books have one type. Besides the `book`, a key
+//! has the numbers `about` which the content promises something, as a `Slot` has. `of_book` and `of_numbers` of
 //! `specs/Pages.antt` make a key of one of the two.
 //!
 //! ```text
