@@ -13,6 +13,8 @@ mod book_uses;
 #[cfg(test)]
 mod calls;
 #[cfg(test)]
+mod drains;
+#[cfg(test)]
 mod fills;
 #[cfg(test)]
 mod parts;
