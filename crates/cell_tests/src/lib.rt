@@ -11,3 +11,5 @@ mod once;
 mod paths;
 #[cfg(test)]
 mod pending;
+#[cfg(test)]
+mod replayed;
