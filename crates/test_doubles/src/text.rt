@@ -1,8 +1,13 @@
 //! What a value shows of itself.
 
-use std::alloc::AllocGlobal;
+use std::alloc::{AllocError, AllocGlobal, Global};
 use std::fmt::Debug;
 use std::io::Eprint;
+
+/// The Debug text of a value.
+pub fn text_of<T: Debug>(alloc: Global, value: &T) -> Result<String, AllocError> {
+    format!(in alloc; "{value:?}")
+}
 
 /// Whether a value's Debug text ends so. If it does not, the text is printed.
 pub fn shows<R: AllocGlobal + Eprint>(rt: &R, value: &impl Debug, wanted: &str) -> bool {

@@ -10,13 +10,8 @@ use futures::Future;
 use futures::task::Context;
 use futures::test::MockTask;
 use std::alloc::{AllocError, AllocGlobal, Global};
-use std::fmt;
 use std::sync::Wait;
-
-/// The Debug text of a value.
-pub fn text_of<T: fmt::Debug>(alloc: Global, value: &T) -> Result<String, AllocError> {
-    format!(in alloc; "{value:?}")
-}
+use test_doubles::text::text_of;
 
 // The kit knows that an init outlives the loan of its lazy cell if the init is a type parameter, as it is
 // here, and not if it is a type that borrows.

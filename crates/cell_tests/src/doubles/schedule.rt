@@ -33,7 +33,7 @@ mod refusals;
 mod scene;
 
 use crate::doubles::expected::{cell_shows, lazy_shows};
-use crate::doubles::made::{Made, text_of};
+use crate::doubles::made::Made;
 use crate::doubles::other::Other;
 use crate::doubles::same;
 use crate::doubles::stub::Init;
@@ -49,6 +49,7 @@ use std::process::Abort;
 use std::random::RandomSource;
 use std::sync::Wait;
 use test_doubles::memory::hoard;
+use test_doubles::text::text_of;
 
 // How many futures and tasks a schedule has, which are numbered from 0: one more than its greatest number, and two at
 // least.

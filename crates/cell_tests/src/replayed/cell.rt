@@ -3,7 +3,6 @@
 use super::machine::Seen;
 use super::wakers::Wakers;
 use super::whole::Whole;
-use crate::doubles::made::text_of;
 use crate::doubles::poll::heard;
 use crate::doubles::stub::{Init, Stub, Tried};
 use async_once_cell::record::Reply;
@@ -16,6 +15,7 @@ use std::collections::BTreeMap;
 use std::mem::replace;
 use std::sync::Wait;
 use test_doubles::memory::hoard;
+use test_doubles::text::text_of;
 
 /// A future of a lazy cell, which has these answers, the last one first. If it has none left it is Pending.
 #[derive(Drop)]

@@ -4,11 +4,11 @@ ghost use Rattle.once_script.specs.Reached.{IsReached};
 
 use super::wakers::TASKS;
 use super::whole::{Row, Whole};
-use crate::doubles::made::text_of;
 use once_script::parse::RUN_STEPS;
 use once_script::world::{Entry, Input, Ran, World};
 use std::alloc::{AllocError, Global};
 use std::collections::BTreeMap;
+use test_doubles::text::text_of;
 
 /// What is seen of a call.
 #[derive(Debug, Drop, PartialEq)]

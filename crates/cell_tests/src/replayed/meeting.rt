@@ -4,7 +4,6 @@ use super::cell::{Cell as AnyCell, Stage, seen};
 use super::machine::Seen;
 use super::wakers::Wakers;
 use super::whole::Whole;
-use crate::doubles::made::text_of;
 use crate::doubles::poll::heard;
 use crate::doubles::stub::Tried;
 use async_once_cell::TryInitFuture;
@@ -15,6 +14,7 @@ use std::alloc::{Alloc, AllocError, AllocGlobal, Global};
 use std::cell::Cell;
 use std::mem::replace;
 use std::sync::{Mutex, Wait};
+use test_doubles::text::text_of;
 
 /// The futures that are used in the middle of a call of another.
 #[derive(Drop)]

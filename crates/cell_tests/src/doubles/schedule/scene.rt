@@ -1,6 +1,6 @@
 //! What a schedule is about: the tasks, the inits and the cells, and what they show.
 
-use crate::doubles::made::{Made, text_of};
+use crate::doubles::made::Made;
 use crate::doubles::other::{Meddling, Other};
 use crate::doubles::poll::{calm, heard, tasks};
 use crate::doubles::stub::{Init, Stub, Tried};
@@ -11,6 +11,7 @@ use std::alloc::{AllocError, AllocGlobal};
 use std::random::RandomSource;
 use std::sync::Wait;
 use std::{fmt, io};
+use test_doubles::text::text_of;
 
 /// What a line led to: what a poll answered, and whether the future is done.
 #[derive(Clone, Copy)]
