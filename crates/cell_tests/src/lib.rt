@@ -11,5 +11,3 @@ mod once;
 mod paths;
 #[cfg(test)]
 mod pending;
-#[cfg(test)]
-mod replayed;

@@ -10,17 +10,18 @@ ghost use Rattle.once_script.specs.Reached.{IsReached};
 
 mod cell;
 mod chance;
+mod inits;
 mod machine;
 mod meeting;
 mod rows;
 mod wakers;
 mod whole;
 
-use crate::doubles::stub::{Stub, Tried};
 use async_once_cell::queue::MAX_WAITERS;
 use cell::{Cell, Stage, seen};
+use inits::Answer;
 use machine::{Seen, Teller, Wanted, ordered};
-use meeting::{Answering, Meeting, Meets};
+use meeting::{Meeting, Meets};
 use once_script::world::{Kind, World};
 use std::alloc::AllocGlobal;
 use std::sync::Wait;
@@ -40,7 +41,7 @@ pub struct Part {
 pub struct Player<'p, R> {
     pub rt: &'p R,
     pub wakers: &'p Wakers,
-    pub stub: &'p Stub<Tried>,
+    pub answer: &'p Answer,
     /// What is played.
     pub name: &'p str,
 }
@@ -54,7 +55,7 @@ impl<R: Wait + AllocGlobal> Player<'_, R> {
         let mut world = World::new(alloc, kind, MAX_WAITERS);
         for part in parts {
             let Part { rows, last } = part;
-            let stage = Stage::new(self.rt, &cell, self.wakers, self.stub);
+            let stage = Stage::new(self.rt, &cell, self.wakers, self.answer);
             self.play_part(&mut teller, &mut world, stage, rows)?;
             self.own(&mut teller, &mut world, &mut cell, last)?;
         }
@@ -118,7 +119,7 @@ impl<R: Wait + AllocGlobal> Player<'_, R> {
             alloc,
             meeting: &meeting,
         };
-        let mut outer = once.get_or_try_init(&meets, Answering { meeting: &meeting });
+        let mut outer = once.get_or_try_init(&meets, meeting.init());
         for row in rows {
             let wanted = teller.tell(world, &row)?;
             let Row {

@@ -2,11 +2,11 @@
 
 use super::whole::{Row, Whole};
 use super::{Part, Player, Wakers};
-use crate::doubles::stub::Stub;
 use once_script::world::{Call, Input, Kind, Ran};
 use rand_core::{Rng, SeedableRng};
 use rand_xoshiro::Xoshiro256PlusPlus;
 use std::alloc::{AllocError, Global};
+use std::cell::Cell;
 use std::test::Fail;
 
 // How many seeds there are, how often the owner calls for each, and how many calls come before that.
@@ -135,7 +135,7 @@ impl Chance {
 
 #[test]
 fn calls_at_random(rt: HostRuntime) -> Result<(), Fail> {
-    let (alloc, wakers, stub) = (rt.alloc(), Wakers::new(&rt)?, Stub::new());
+    let (alloc, wakers, answer) = (rt.alloc(), Wakers::new(&rt)?, Cell::new(Ran::Pending));
     for seed in 0..SEEDS {
         let mut chance = Chance::new(alloc, seed);
         let kind = chance.kind()?;
@@ -147,7 +147,7 @@ fn calls_at_random(rt: HostRuntime) -> Result<(), Fail> {
         let player = Player {
             rt: &rt,
             wakers: &wakers,
-            stub: &stub,
+            answer: &answer,
             name: name.as_str(),
         };
         player.play(kind, parts)?;

@@ -1,12 +1,12 @@
 //! A call of a `OnceCell` in whose middle others are made: when its init is polled, or when it asks for memory.
 
 use super::cell::{Cell as AnyCell, Stage, seen};
+use super::inits::{Answer, Told};
 use super::machine::Seen;
 use super::wakers::Wakers;
 use super::whole::Whole;
-use crate::doubles::poll::heard;
-use crate::doubles::stub::Tried;
 use async_once_cell::TryInitFuture;
+use cell_doubles::poll::heard;
 use futures::Future;
 use futures::task::{Context, Poll};
 use once_script::world::{Input, Ran};
@@ -26,7 +26,7 @@ pub struct Meeting<'a, R: Wait + AllocGlobal> {
     // The other calls, until they are made.
     others: Cell<Option<Vec<Whole>>>,
     // What the init of that call answers.
-    answer: Cell<Ran>,
+    answer: Answer,
     // What was seen of the others.
     noted: Mutex<Vec<Seen>>,
 }
@@ -42,6 +42,14 @@ impl<'a, R: Wait + AllocGlobal> Meeting<'a, R> {
             others: Cell::new(None),
             answer: Cell::new(Ran::Pending),
             noted: Mutex::new(Vec::new(rt.alloc())),
+        }
+    }
+
+    /// The init of the future that makes the call.
+    pub fn init(&self) -> Answering<'_, 'a, R> {
+        Answering {
+            meeting: self,
+            told: Told::new(&self.answer),
         }
     }
 
@@ -108,18 +116,15 @@ impl<R: Wait + AllocGlobal> Alloc for Meets<'_, '_, R> {
 /// Its init.
 #[derive(Drop)]
 pub struct Answering<'o, 'a, R: Wait + AllocGlobal> {
-    pub meeting: &'o Meeting<'a, R>,
+    meeting: &'o Meeting<'a, R>,
+    told: Told<'o>,
 }
 
 impl<R: Wait + AllocGlobal> Future for Answering<'_, '_, R> {
-    type Output = Tried;
+    type Output = Result<u64, u64>;
 
-    fn poll(&mut self, cx: &mut Context<'_>) -> Poll<Tried> {
+    fn poll(&mut self, cx: &mut Context<'_>) -> Poll<Result<u64, u64>> {
         self.meeting.meet();
-        match self.meeting.answer.get() {
-            Ran::Pending => cx.yield_now(),
-            Ran::Value(value) => Poll::Ready(Ok(value)),
-            Ran::Error(error) => Poll::Ready(Err(error)),
-        }
+        self.told.poll(cx)
     }
 }

@@ -1,6 +1,6 @@
 -- The world was reached by the calls so far.
 use Rattle.once_script.specs.Reached.{IsReached}
-use Rattle.cell_tests.proofs.replayed.machine.Teller.tell.Given as goal
+use Rattle.replay_tests.proofs.calls.machine.Teller.tell.Given as goal
 
 abbrev pub invariant-loop-whole : goal.invariant-loop-whole
 invariant-loop-whole l = IsReached l.world

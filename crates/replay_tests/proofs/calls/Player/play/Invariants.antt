@@ -1,6 +1,6 @@
 -- The world was reached by the parts so far.
 use Rattle.once_script.specs.Reached.{IsReached}
-use Rattle.cell_tests.proofs.replayed.Player.play.Given as goal
+use Rattle.replay_tests.proofs.calls.Player.play.Given as goal
 
 abbrev pub invariant-loop-part : goal.invariant-loop-part
 invariant-loop-part g l = IsReached l.world

@@ -1,12 +1,12 @@
 //! The cells that make the calls, their inits and their futures.
 
+use super::inits::{Answer, Told};
 use super::machine::Seen;
 use super::wakers::Wakers;
 use super::whole::Whole;
-use crate::doubles::poll::heard;
-use crate::doubles::stub::{Init, Stub, Tried};
 use async_once_cell::record::Reply;
 use async_once_cell::{LazyFuturePin, OnceCell, TryInitFuture};
+use cell_doubles::poll::heard;
 use futures::Future;
 use futures::task::{Context, Poll};
 use once_script::world::{Call, Got, Input, Kind, Ran};
@@ -132,7 +132,7 @@ fn parts(cell: Lazy) -> Got {
 // A future of a cell.
 #[derive(Drop)]
 enum Made<'a, R: Wait + AllocGlobal> {
-    Trying(TryInitFuture<'a, u64, u64, Init<'a, Tried>, R>),
+    Trying(TryInitFuture<'a, u64, u64, Told<'a>, R>),
     Lazily(LazyFuturePin<'a, u64, Answers, R>),
 }
 
@@ -156,32 +156,23 @@ impl<R: Wait + AllocGlobal> Made<'_, R> {
     }
 }
 
-// Tells the inits what they answer.
-fn instruct(stub: &Stub<Tried>, answer: Ran) {
-    stub.answer.set(match answer {
-        Ran::Pending => None,
-        Ran::Value(value) => Some(Ok(value)),
-        Ran::Error(error) => Some(Err(error)),
-    });
-}
-
 /// A cell with its futures, between two calls of the owner.
 #[derive(Drop)]
 pub struct Stage<'a, R: Wait + AllocGlobal> {
     pub rt: &'a R,
     pub cell: &'a Cell,
     pub wakers: &'a Wakers,
-    pub stub: &'a Stub<Tried>,
+    answer: &'a Answer,
     futures: BTreeMap<u64, Made<'a, R>>,
 }
 
 impl<'a, R: Wait + AllocGlobal> Stage<'a, R> {
-    pub fn new(rt: &'a R, cell: &'a Cell, wakers: &'a Wakers, stub: &'a Stub<Tried>) -> Self {
+    pub fn new(rt: &'a R, cell: &'a Cell, wakers: &'a Wakers, answer: &'a Answer) -> Self {
         Stage {
             rt,
             cell,
             wakers,
-            stub,
+            answer,
             futures: BTreeMap::new(rt.alloc()),
         }
     }
@@ -217,7 +208,7 @@ impl<'a, R: Wait + AllocGlobal> Stage<'a, R> {
 
     fn made(&self) -> Made<'a, R> {
         match self.cell {
-            Cell::Once(cell) => Made::Trying(cell.get_or_try_init(self.rt, self.stub.init())),
+            Cell::Once(cell) => Made::Trying(cell.get_or_try_init(self.rt, Told::new(self.answer))),
             Cell::Lazy(cell) => Made::Lazily(cell.get(self.rt)),
         }
     }
@@ -229,7 +220,7 @@ impl<'a, R: Wait + AllocGlobal> Stage<'a, R> {
         waker: u64,
     ) -> Result<Option<Reply>, AllocError> {
         let (rt, wakers) = (self.rt, self.wakers);
-        instruct(self.stub, whole.answer);
+        self.answer.set(whole.answer);
         let Some(future) = self.futures.get_mut(&task) else {
             return Ok(None);
         };

@@ -3,9 +3,10 @@
 
 use super::whole::Reader;
 use super::{Part, Player, Wakers};
-use crate::doubles::stub::Stub;
 use once_script::parse::{Opening, parse_line, parse_opening};
+use once_script::world::Ran;
 use std::alloc::AllocGlobal;
+use std::cell::Cell;
 use std::random::RandomSource;
 use std::sync::Wait;
 use std::test::Fail;
@@ -92,14 +93,14 @@ fn play_text<R: Wait + AllocGlobal>(player: &Player<'_, R>, text: &str) -> Resul
 }
 
 fn play_texts<R: Wait + AllocGlobal + RandomSource>(rt: &R, texts: &str) -> Result<(), Fail> {
-    let stub = Stub::new();
+    let answer = Cell::new(Ran::Pending);
     for text in texts.split("\n\n") {
         let wakers = Wakers::new(rt)?;
         let (name, script) = text.split_once('\n').unwrap_or((text, ""));
         let player = Player {
             rt,
             wakers: &wakers,
-            stub: &stub,
+            answer: &answer,
             name,
         };
         play_text(&player, script)?;
