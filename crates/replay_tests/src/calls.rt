@@ -17,12 +17,11 @@ mod rows;
 mod wakers;
 mod whole;
 
-use async_once_cell::queue::MAX_WAITERS;
 use cell::{Cell, Stage, seen};
 use inits::Answer;
 use machine::{Seen, Teller, Wanted, ordered};
 use meeting::{Meeting, Meets};
-use once_script::world::{Kind, World};
+use once_script::world::Kind;
 use std::alloc::AllocGlobal;
 use std::sync::Wait;
 use std::test::Fail;
@@ -51,13 +50,12 @@ impl<R: Wait + AllocGlobal> Player<'_, R> {
     pub fn play(&self, kind: Kind, parts: Vec<Part>) -> Result<(), Fail> {
         let alloc = self.rt.alloc();
         let mut cell = Cell::new(alloc, &kind)?;
-        let mut teller = Teller::new(alloc, cell.is_lazy());
-        let mut world = World::new(alloc, kind, MAX_WAITERS);
+        let mut teller = Teller::new(alloc, kind);
         for part in parts {
             let Part { rows, last } = part;
             let stage = Stage::new(self.rt, &cell, self.wakers, self.answer);
-            self.play_part(&mut teller, &mut world, stage, rows)?;
-            self.own(&mut teller, &mut world, &mut cell, last)?;
+            self.play_part(&mut teller, stage, rows)?;
+            self.own(&mut teller, &mut cell, last)?;
         }
         Ok(())
     }
@@ -66,16 +64,15 @@ impl<R: Wait + AllocGlobal> Player<'_, R> {
     fn play_part(
         &self,
         teller: &mut Teller,
-        world: &mut World,
         stage: Stage<'_, R>,
         rows: Vec<Row>,
     ) -> Result<(), Fail>
-        requires reached { IsReached world.old }
-        ensures reached { OnOk result (IsReached world.new) }
+        requires reached { IsReached teller.old.world }
+        ensures reached { OnOk result (IsReached teller.new.world) }
     {
         match met_in(&rows) {
-            Some(task) => self.play_met(teller, world, stage, (rows, task)),
-            None => self.play_rows(teller, world, stage, rows),
+            Some(task) => self.play_met(teller, stage, (rows, task)),
+            None => self.play_rows(teller, stage, rows),
         }
     }
 
@@ -83,16 +80,15 @@ impl<R: Wait + AllocGlobal> Player<'_, R> {
     fn play_rows(
         &self,
         teller: &mut Teller,
-        world: &mut World,
         stage: Stage<'_, R>,
         rows: Vec<Row>,
     ) -> Result<(), Fail>
-        requires reached { IsReached world.old }
-        ensures reached { OnOk result (IsReached world.new) }
+        requires reached { IsReached teller.old.world }
+        ensures reached { OnOk result (IsReached teller.new.world) }
     {
         let mut stage = stage;
         for row in rows {
-            let wanted = teller.tell_one(world, &row.whole)?;
+            let wanted = teller.tell_one(&row.whole)?;
             let found = stage.seen(&row.whole)?;
             self.compare(&row.whole, found, wanted)?;
         }
@@ -103,12 +99,11 @@ impl<R: Wait + AllocGlobal> Player<'_, R> {
     fn play_met(
         &self,
         teller: &mut Teller,
-        world: &mut World,
         stage: Stage<'_, R>,
         calls: (Vec<Row>, u64),
     ) -> Result<(), Fail>
-        requires reached { IsReached world.old }
-        ensures reached { OnOk result (IsReached world.new) }
+        requires reached { IsReached teller.old.world }
+        ensures reached { OnOk result (IsReached teller.new.world) }
     {
         let (alloc, (rows, task)) = (self.rt.alloc(), calls);
         let Cell::Once(once) = stage.cell else {
@@ -121,7 +116,7 @@ impl<R: Wait + AllocGlobal> Player<'_, R> {
         };
         let mut outer = once.get_or_try_init(&meets, meeting.init());
         for row in rows {
-            let wanted = teller.tell(world, &row)?;
+            let wanted = teller.tell(&row)?;
             let Row {
                 whole,
                 steps: _,
@@ -154,20 +149,14 @@ impl<R: Wait + AllocGlobal> Player<'_, R> {
     }
 
     // Compares a call of the owner, if there is one.
-    fn own(
-        &self,
-        teller: &mut Teller,
-        world: &mut World,
-        cell: &mut Cell,
-        last: Option<Whole>,
-    ) -> Result<(), Fail>
-        requires reached { IsReached world.old }
-        ensures reached { OnOk result (IsReached world.new) }
+    fn own(&self, teller: &mut Teller, cell: &mut Cell, last: Option<Whole>) -> Result<(), Fail>
+        requires reached { IsReached teller.old.world }
+        ensures reached { OnOk result (IsReached teller.new.world) }
     {
         let Some(whole) = last else {
             return Ok(());
         };
-        let wanted = teller.tell_one(world, &whole)?;
+        let wanted = teller.tell_one(&whole)?;
         let told = cell.owned(self.rt.alloc(), &whole)?;
         let found = seen(self.rt, self.wakers, cell, told)?;
         self.compare(&whole, found, wanted)

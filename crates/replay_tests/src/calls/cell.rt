@@ -68,10 +68,6 @@ impl Cell {
         })
     }
 
-    pub fn is_lazy(&self) -> bool {
-        matches!(self, Cell::Lazy(_))
-    }
-
     fn value(&self) -> Option<u64> {
         match self {
             Cell::Once(cell) => cell.get().copied(),

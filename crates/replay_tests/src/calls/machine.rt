@@ -4,8 +4,10 @@ ghost use Rattle.once_script.specs.Reached.{IsReached};
 
 use super::wakers::TASKS;
 use super::whole::{Row, Whole};
+use async_once_cell::queue::MAX_WAITERS;
+use once_judge::task_of;
 use once_script::parse::RUN_STEPS;
-use once_script::world::{Entry, Input, Ran, World};
+use once_script::world::{Entry, Input, Kind, Ran, World};
 use std::alloc::{AllocError, Global};
 use std::collections::BTreeMap;
 use test_doubles::text::text_of;
@@ -97,23 +99,6 @@ fn take(world: &mut World, whole: &Whole) -> Result<(), AllocError>
     }
 }
 
-// Which task made an entry, or 0 if none did.
-fn task_of(entry: &Entry) -> u64 {
-    match entry {
-        Entry::Look(_) | Entry::Own(_, _) => 0,
-        Entry::Made(task)
-        | Entry::Begin(task, _)
-        | Entry::Claim(task)
-        | Entry::Ran(task, _)
-        | Entry::Free(task, _)
-        | Entry::Fill(task, _, _)
-        | Entry::Pass(task, _)
-        | Entry::End(task, _)
-        | Entry::DropBegin(task)
-        | Entry::DropEnd(task) => *task,
-    }
-}
-
 // What the entries of a call tell: its answer, and whose wakers it hands out.
 #[derive(Drop)]
 struct Notes {
@@ -150,95 +135,102 @@ struct Before {
     waker: Option<u64>,
 }
 
-/// Tells what a replay shows of calls. There the waker of a task has its number, and by which waker the task was polled
-/// last stands here. So a waiter that comes with another one keeps its place, as in a cell.
+/// Has a replay make calls, and tells what it shows of them. There the waker of a task has its number, and by which
+/// waker the task was polled last stands here. So a waiter that comes with another one keeps its place, as in a cell.
 #[derive(Drop)]
 pub struct Teller {
     alloc: Global,
     is_lazy: bool,
+    world: World,
     wakers: BTreeMap<u64, u64>,
 }
 
 impl Teller {
-    pub fn new(alloc: Global, is_lazy: bool) -> Self {
+    /// For a cell of this kind that nobody used.
+    pub fn new(alloc: Global, kind: Kind) -> Self
+        ensures reached { IsReached result.world }
+    {
         Teller {
             alloc,
-            is_lazy,
+            is_lazy: matches!(kind, Kind::Lazy(_) | Kind::LazyWith(_)),
+            world: World::new(alloc, kind, MAX_WAITERS),
             wakers: BTreeMap::new(alloc),
         }
     }
 
     /// What a replay shows of a call, after those in its middle.
-    pub fn tell(&mut self, world: &mut World, row: &Row) -> Result<Vec<Wanted>, AllocError>
-        requires reached { IsReached world.old }
-        ensures reached { OnOk result (IsReached world.new) }
+    pub fn tell(&mut self, row: &Row) -> Result<Vec<Wanted>, AllocError>
+        requires reached { IsReached self.old.world }
+        ensures reached { OnOk result (IsReached self.new.world) }
     {
         let mut all = Vec::new(self.alloc);
-        let before = self.begin(world, &row.whole)?;
-        world.run(row.whole.task(), Ran::Pending, true, row.steps)?;
+        let before = self.begin(&row.whole)?;
+        self.world
+            .run(row.whole.task(), Ran::Pending, true, row.steps)?;
         for whole in &row.meanwhile {
-            all.push(self.tell_one(world, whole)?)?;
+            all.push(self.tell_one(whole)?)?;
         }
-        all.push(self.end(world, &row.whole, before)?)?;
+        all.push(self.end(&row.whole, before)?)?;
         Ok(all)
     }
 
     /// What a replay shows of a call.
-    pub fn tell_one(&mut self, world: &mut World, whole: &Whole) -> Result<Wanted, AllocError>
-        requires reached { IsReached world.old }
-        ensures reached { OnOk result (IsReached world.new) }
+    pub fn tell_one(&mut self, whole: &Whole) -> Result<Wanted, AllocError>
+        requires reached { IsReached self.old.world }
+        ensures reached { OnOk result (IsReached self.new.world) }
     {
-        let before = self.begin(world, whole)?;
-        self.end(world, whole, before)
+        let before = self.begin(whole)?;
+        self.end(whole, before)
     }
 
-    fn begin(&mut self, world: &mut World, whole: &Whole) -> Result<Before, AllocError>
-        requires reached { IsReached world.old }
-        ensures reached { OnOk result (IsReached world.new) }
+    fn begin(&mut self, whole: &Whole) -> Result<Before, AllocError>
+        requires reached { IsReached self.old.world }
+        ensures reached { OnOk result (IsReached self.new.world) }
     {
         let before = Before {
-            entries: world.entries().len(),
-            listed: listed(self.alloc, world)?,
+            entries: self.world.entries().len(),
+            listed: listed(self.alloc, &self.world)?,
             waker: self.wakers.get(&whole.task()).copied(),
         };
         if let Input::Poll(task, waker) = &whole.input {
             self.wakers.insert(*task, *waker)?;
         }
-        take(world, whole)?;
+        take(&mut self.world, whole)?;
         Ok(before)
     }
 
-    fn end(&self, world: &mut World, whole: &Whole, before: Before) -> Result<Wanted, AllocError>
-        requires reached { IsReached world.old }
-        ensures reached { OnOk result (IsReached world.new) }
+    fn end(&mut self, whole: &Whole, before: Before) -> Result<Wanted, AllocError>
+        requires reached { IsReached self.old.world }
+        ensures reached { OnOk result (IsReached self.new.world) }
     {
-        world.run(whole.task(), whole.answer, whole.is_granted, RUN_STEPS)?;
+        self.world
+            .run(whole.task(), whole.answer, whole.is_granted, RUN_STEPS)?;
         let Notes {
             alloc,
             told,
             handed,
             is_pending,
-        } = self.notes(world, whole, before.entries)?;
-        let after = listed(alloc, world)?;
+        } = self.notes(whole, before.entries)?;
+        let after = listed(alloc, &self.world)?;
         let own = self.own(whole.task(), before, after, is_pending)?;
         let seen = Seen {
             told,
             woken: self.woken(&handed, &own)?,
-            shown: self.shown(world)?,
+            shown: self.shown()?,
         };
         Ok(Wanted { seen, own })
     }
 
     // What the entries of a call tell, which come after so many.
-    fn notes(&self, world: &World, whole: &Whole, before: usize) -> Result<Notes, AllocError> {
+    fn notes(&self, whole: &Whole, before: usize) -> Result<Notes, AllocError> {
         let mut notes = Notes {
             alloc: self.alloc,
             told: String::new(self.alloc),
             handed: Vec::new(self.alloc),
             is_pending: false,
         };
-        for entry in world.entries().get(before..).unwrap_or(&[]) {
-            if task_of(entry) == whole.task() {
+        for entry in self.world.entries().get(before..).unwrap_or(&[]) {
+            if task_of(entry).unwrap_or(0) == whole.task() {
                 notes.note(entry)?;
             }
         }
@@ -274,16 +266,16 @@ impl Teller {
     }
 
     // The Debug text of a cell that stands as the replay does.
-    fn shown(&self, world: &mut World) -> Result<String, AllocError>
-        requires reached { IsReached world.old }
-        ensures reached { OnOk result (IsReached world.new) }
+    fn shown(&mut self) -> Result<String, AllocError>
+        requires reached { IsReached self.old.world }
+        ensures reached { OnOk result (IsReached self.new.world) }
     {
-        world.take(&Input::Look)?;
-        let value = match world.entries().last() {
+        self.world.take(&Input::Look)?;
+        let value = match self.world.entries().last() {
             Some(Entry::Look(value)) => *value,
             _ => None,
         };
-        let core = world.core();
+        let core = self.world.core();
         let inner = Inner {
             ready: core.word.is_ready(),
             quick_init: core.word.is_quick(),

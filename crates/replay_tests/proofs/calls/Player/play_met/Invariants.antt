@@ -3,4 +3,4 @@ use Rattle.once_script.specs.Reached.{IsReached}
 use Rattle.replay_tests.proofs.calls.Player.play_met.Given as goal
 
 abbrev pub invariant-loop-row : goal.invariant-loop-row
-invariant-loop-row g l = IsReached l.world
+invariant-loop-row g l = IsReached l.teller.world
