@@ -150,6 +150,22 @@ impl<R: Wait + AllocGlobal> Made<'_, R> {
             Made::Lazily(future) => heard(Future::poll(future, cx)),
         })
     }
+
+    // The same without memory, unless it is granted.
+    fn poll_granted(
+        &mut self,
+        cx: &mut Context<'_>,
+        alloc: Global,
+        is_granted: bool,
+    ) -> Result<Option<Reply>, AllocError> {
+        if is_granted {
+            return Ok(self.poll(cx));
+        }
+        let held = hoard(alloc)?;
+        let reply = self.poll(cx);
+        drop(held);
+        Ok(reply)
+    }
 }
 
 /// A cell with its futures, between two calls of the owner.
@@ -220,14 +236,11 @@ impl<'a, R: Wait + AllocGlobal> Stage<'a, R> {
         let Some(future) = self.futures.get_mut(&task) else {
             return Ok(None);
         };
-        let held = if whole.is_granted {
-            None
-        } else {
-            Some(hoard(rt.alloc())?)
-        };
-        let reply = wakers.enter(rt, waker, |cx| future.poll(cx));
-        drop(held);
-        Ok(reply.flatten())
+        let (alloc, is_granted) = (rt.alloc(), whole.is_granted);
+        match wakers.enter(rt, waker, |cx| future.poll_granted(cx, alloc, is_granted)) {
+            Some(reply) => reply,
+            None => Ok(None),
+        }
     }
 
     // Drops a future. Whether it was not finished.

@@ -7,7 +7,7 @@ use super::whole::{Row, Whole};
 use async_once_cell::queue::MAX_WAITERS;
 use once_judge::task_of;
 use once_script::parse::RUN_STEPS;
-use once_script::world::{Entry, Input, Kind, Ran, World};
+use once_script::world::{Entry, Input, Kind, Ran, Reply, World};
 use std::alloc::{AllocError, Global};
 use std::collections::BTreeMap;
 use test_doubles::text::text_of;
@@ -27,9 +27,9 @@ pub struct Seen {
 #[derive(Drop)]
 pub struct Wanted {
     pub seen: Seen,
-    /// Those of the tasks that are woken though no waker of theirs is handed out: a waiter that leaves the list, or
-    /// comes with another waker, lets its own go, and an init that is Pending asks for another poll. The machine does
-    /// not say at which moment of the call.
+    /// Those of the tasks that are woken though no waker of theirs is handed out: a waiter that leaves the list, comes
+    /// with another waker, or is refused a listing lets its own go, and an init that is Pending asks for another poll.
+    /// The machine does not say at which moment of the call.
     pub own: Vec<u64>,
 }
 
@@ -105,21 +105,26 @@ struct Notes {
     alloc: Global,
     told: String,
     handed: Vec<u64>,
-    // An init was Pending.
-    is_pending: bool,
+    // Whether a queue stands at the door after it. Then memory was refused for a listing, and else for a queue.
+    has_queue: bool,
+    // An init was Pending, or a listing was refused.
+    wakes_own: bool,
 }
 
 impl Notes {
     fn note(&mut self, entry: &Entry) -> Result<(), AllocError> {
         match entry {
-            Entry::End(_, reply) => self.told = text_of(self.alloc, reply)?,
+            Entry::End(_, reply) => {
+                self.told = text_of(self.alloc, reply)?;
+                self.wakes_own |= self.has_queue && matches!(reply, Reply::Memory);
+            }
             Entry::DropEnd(_) => self.told = text_of(self.alloc, &"dropped")?,
             Entry::Look(value) => self.told = text_of(self.alloc, value)?,
             Entry::Own(_, got) => self.told = text_of(self.alloc, got)?,
             Entry::Free(_, tasks) | Entry::Fill(_, _, tasks) | Entry::Pass(_, tasks) => {
                 self.handed.extend_from_slice(tasks)?;
             }
-            Entry::Ran(_, Ran::Pending) => self.is_pending = true,
+            Entry::Ran(_, Ran::Pending) => self.wakes_own = true,
             _ => {}
         }
         Ok(())
@@ -209,10 +214,11 @@ impl Teller {
             alloc,
             told,
             handed,
-            is_pending,
+            has_queue: _,
+            wakes_own,
         } = self.notes(whole, before.entries)?;
         let after = listed(alloc, &self.world)?;
-        let own = self.own(whole.task(), before, after, is_pending)?;
+        let own = self.own(whole.task(), before, after, wakes_own)?;
         let seen = Seen {
             told,
             woken: self.woken(&handed, &own)?,
@@ -227,7 +233,8 @@ impl Teller {
             alloc: self.alloc,
             told: String::new(self.alloc),
             handed: Vec::new(self.alloc),
-            is_pending: false,
+            has_queue: self.world.core().door.is_some(),
+            wakes_own: false,
         };
         for entry in self.world.entries().get(before..).unwrap_or(&[]) {
             if task_of(entry).unwrap_or(0) == whole.task() {
@@ -243,14 +250,14 @@ impl Teller {
         task: u64,
         before: Before,
         after: Vec<u64>,
-        is_pending: bool,
+        wakes_own: bool,
     ) -> Result<Vec<u64>, AllocError> {
         let mut own = Vec::new(self.alloc);
         let waker = self.wakers.get(&task).copied();
         if before.listed.contains(&task) && (!after.contains(&task) || waker != before.waker) {
             add(&mut own, before.waker)?;
         }
-        if is_pending {
+        if wakes_own {
             add(&mut own, waker)?;
         }
         Ok(own)

@@ -72,6 +72,22 @@ poll 2 7; run 2 p
 # dropped_quick_holder: it calls the one who waits
 once 8; make 1; make 2; poll 1 5; run 1 p; poll 2 7; run 2 p; drop 1; run 1 p; poll 2 7; run 2 v3";
 
+// Schedules in which all memory is taken during a poll.
+const REFUSED: &str = "\
+# queue_refused: who would wait is refused a queue, and is gone. The next one waits
+once 8; make 1; make 2; make 3; poll 1 5; run 1 p; poll 2 7; run 2 p x; poll 3 9; run 3 p; poll 1 5; run 1 v4;
+poll 3 9; run 3 p
+
+# nothing_asked: who holds, waits already, or is called needs no memory
+once 8; make 1; make 2; poll 1 5; run 1 p x; poll 2 7; run 2 p; poll 2 7; run 2 p x; poll 1 5; run 1 e5 x;
+poll 2 7; run 2 v4 x
+
+# listing_refused: eight wait, and a ninth is refused a listing
+once 16; make 1; make 2; make 3; make 4; make 5; make 6; make 7; make 8; make 9; make 10; poll 1 1; run 1 p;
+poll 2 2; run 2 p; poll 3 3; run 3 p; poll 4 4; run 4 p; poll 5 5; run 5 p; poll 6 6; run 6 p;
+poll 7 7; run 7 p; poll 8 8; run 8 p; poll 9 9; run 9 p; poll 10 10; run 10 p x; poll 1 1; run 1 e5;
+poll 2 2; run 2 v6";
+
 fn play_text<R: Wait + AllocGlobal>(player: &Player<'_, R>, text: &str) -> Result<(), Fail> {
     let (alloc, name) = (player.rt.alloc(), player.name);
     let mut reader = Reader::new(alloc);
@@ -111,4 +127,9 @@ fn play_texts<R: Wait + AllocGlobal + RandomSource>(rt: &R, texts: &str) -> Resu
 #[test]
 fn worked_schedules(rt: HostRuntime) -> Result<(), Fail> {
     play_texts(&rt, ROWS)
+}
+
+#[test]
+fn memory_refused(rt: HostRuntime) -> Result<(), Fail> {
+    play_texts(&rt, REFUSED)
 }
