@@ -4,34 +4,40 @@
 //! cell. Of a table it reads all. Nothing is shared with `once_view` but the words of docs/SCRIPTS.md and the classes
 //! of shapes. The same seed always gives the same script.
 
-use crate::chance::Chance;
 use crate::same::same;
-use fault::Fault;
 use once_view::range::LineRange;
 use once_view::{Format, show_lines};
-use schedule::{Played, play};
+use script::{Played, play};
+use script_doubles::chance::Chance;
 use std::alloc::Global;
 use std::ops::Range;
 use std::test::Fail;
-use table::Window;
 use tally::Tally;
 
-mod fault;
 mod picture;
-mod schedule;
+mod script;
 mod shapes;
 mod story;
 mod table;
 mod tally;
 mod words;
 
+/// Some lines of a script, by their places, both included.
+#[derive(Clone, Copy)]
+struct Window {
+    first: usize,
+    last: usize,
+}
+
 /// A script as it is shown in this format.
-fn shown(alloc: Global, format: Format, played: &Played, window: Window) -> Result<String, Fault> {
+fn shown(alloc: Global, format: Format, played: &Played, window: Window) -> Result<String, Fail> {
     let lines = &played.story.lines;
     let number = |place: usize| lines.get(place).map(|line| line.number);
     let range = LineRange::new(number(window.first), number(window.last))?;
     let mut output = Vec::new(alloc);
-    show_lines(alloc, format, range, played.script.as_bytes(), &mut output)?;
+    if let Err(fault) = show_lines(alloc, format, range, played.script.as_bytes(), &mut output) {
+        return Err(Fail::new(format_args!("of the seed {}: {fault:?}", played.story.seed)));
+    }
     Ok(String::from_utf8_lossy(alloc, output.as_slice())?)
 }
 
@@ -41,33 +47,25 @@ fn read_back(
     played: &Played,
     window: Window,
     tally: &mut Tally,
-) -> Result<(), Fault> {
+) -> Result<(), Fail> {
     let table = shown(alloc, Format::Table, played, window)?;
-    let cells = table::compare(alloc, table.as_str(), &played.story, window)?;
+    table::compare(alloc, table.as_str(), &played.story, window, tally)?;
     let picture = shown(alloc, Format::Picture, played, window)?;
-    let found = picture::compare(alloc, picture.as_str(), &played.story, window)?;
-    tally.add(cells, found);
-    Ok(())
+    picture::compare(alloc, picture.as_str(), &played.story, window, tally)
 }
 
 /// Plays the script of a seed, and reads all of it back, and some lines of it.
-fn read_seed(alloc: Global, seed: u64, tally: &mut Tally) -> Result<(), Fault> {
+fn read_seed(alloc: Global, seed: u64, tally: &mut Tally) -> Result<(), Fail> {
     let played = play(alloc, seed)?;
     tally.count(&played.story)?;
     let many = played.story.lines.len();
-    let all = Window {
-        first: 0,
-        last: many.saturating_sub(1),
-    };
-    read_back(alloc, &played, all, tally)?;
+    let last = many.saturating_sub(1);
+    read_back(alloc, &played, Window { first: 0, last }, tally)?;
     let mut chance = Chance::new(seed);
     let first = chance.draw(many as u64) as usize;
     let more = chance.draw(many.saturating_sub(first) as u64) as usize;
-    let some = Window {
-        first,
-        last: first.saturating_add(more).min(all.last),
-    };
-    read_back(alloc, &played, some, tally)
+    let last = first.saturating_add(more).min(last);
+    read_back(alloc, &played, Window { first, last }, tally)
 }
 
 /// Reads back the script of each of these seeds, and tells how much was compared, and how many words for where a task
@@ -75,9 +73,7 @@ fn read_seed(alloc: Global, seed: u64, tally: &mut Tally) -> Result<(), Fault> {
 fn tallied(alloc: Global, seeds: Range<u64>) -> Result<String, Fail> {
     let mut tally = Tally::new(alloc);
     for seed in seeds {
-        if let Err(fault) = read_seed(alloc, seed, &mut tally) {
-            return Err(Fail::new(format_args!("{seed}: {fault:?}")));
-        }
+        read_seed(alloc, seed, &mut tally)?;
     }
     Ok(format!(in alloc; "{tally}")?)
 }

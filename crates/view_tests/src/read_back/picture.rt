@@ -2,44 +2,19 @@
 //! which, and what the cell is.
 //!
 //! Other marks and words, and the legend, are read of no picture at random. Stored pictures are compared whole.
-use super::fault::Fault;
+use super::Window;
 use super::shapes::{Shape, shapes_of};
-use super::story::{Arrow, Bar, BarKind, Line, Story};
-use super::table::Window;
+use super::story::{Arrow, Bar, Story};
+use super::tally::{Tally, raise};
 use std::alloc::{AllocError, Global};
+use std::test::Fail;
 
-/// How much a picture was found to have.
-#[derive(Clone, Copy)]
-pub struct Found {
-    pub bars: u64,
-    pub arrows: u64,
-    pub names: u64,
-}
+/// A bar: its lane, its class, and the columns of its beginning and its end. What lies before the first column is in
+/// column -1, and what reaches the right edge ends in the column after the last.
+type Placed<'a> = (usize, &'a str, i64, i64);
 
-/// Where something is, by columns: before the first, in one, or at the right edge.
-#[derive(Clone, Copy, PartialEq, Eq)]
-enum Place {
-    Before,
-    Column(usize),
-    Edge,
-}
-
-/// A bar in a lane, from one place to another.
-#[derive(Clone, Copy, PartialEq, Eq)]
-struct Placed {
-    lane: usize,
-    kind: BarKind,
-    from: Place,
-    to: Place,
-}
-
-/// An arrow in a column, from one lane to another.
-#[derive(Clone, Copy, PartialEq, Eq)]
-struct Drawn {
-    column: usize,
-    caller: usize,
-    called: usize,
-}
+/// An arrow: its column, and the lanes of the task that wakes and of the one that is woken.
+type Drawn = (i64, usize, usize);
 
 /// A picture, and what the world says of its lines.
 #[derive(Drop)]
@@ -54,11 +29,16 @@ struct Reading<'a> {
     heights: Vec<i64>,
     left: i64,
     right: i64,
-    found: Found,
 }
 
 /// Compares a picture with what the world says of these lines.
-pub fn compare(alloc: Global, svg: &str, story: &Story, window: Window) -> Result<Found, Fault> {
+pub fn compare(
+    alloc: Global,
+    svg: &str,
+    story: &Story,
+    window: Window,
+    tally: &mut Tally,
+) -> Result<(), Fail> {
     let (shapes, mut heights) = (shapes_of(alloc, svg)?, Vec::new(alloc));
     let (mut left, mut right) = (i64::MAX, 0);
     for shape in &shapes {
@@ -70,7 +50,7 @@ pub fn compare(alloc: Global, svg: &str, story: &Story, window: Window) -> Resul
             right = right.max(shape.right());
         }
     }
-    let mut reading = Reading {
+    let reading = Reading {
         alloc,
         story,
         window,
@@ -79,17 +59,11 @@ pub fn compare(alloc: Global, svg: &str, story: &Story, window: Window) -> Resul
         left,
         right,
         shapes,
-        found: Found {
-            bars: 0,
-            arrows: 0,
-            names: 0,
-        },
     };
-    reading.compare_bars()?;
-    reading.compare_arrows()?;
+    reading.compare_bars(&mut tally.bars)?;
+    reading.compare_arrows(&mut tally.arrows)?;
     reading.compare_band()?;
-    reading.compare_names()?;
-    Ok(reading.found)
+    reading.compare_names(&mut tally.names)
 }
 
 /// The tasks that are there at some of these lines.
@@ -108,27 +82,16 @@ fn is_of_cell(shape: &Shape<'_>) -> bool {
     matches!(shape.class, "empty" | "held" | "set")
 }
 
-/// What a bar of this class shows.
-fn kind_of(class: &str) -> Option<BarKind> {
-    match class {
-        "poll" => Some(BarKind::Poll),
-        "drop" => Some(BarKind::Drop),
-        "wait" => Some(BarKind::Wait),
-        "hold" => Some(BarKind::Hold),
-        _ => None,
-    }
-}
-
 /// So many, as a length.
 fn length(many: usize) -> i64 {
     i64::try_from(many).unwrap_or(i64::MAX)
 }
 
 /// Takes out one that is equal to this. The answer is whether there was one.
-fn take<T: PartialEq + Drop>(all: &mut Vec<T>, wanted: &T) -> bool {
+fn take<T: PartialEq + Copy>(all: &mut Vec<T>, wanted: T) -> bool {
     for place in 0..all.len() {
-        if all[place] == *wanted {
-            drop(all.swap_remove(place));
+        if all[place] == wanted {
+            all.swap_remove(place);
             return true;
         }
     }
@@ -136,57 +99,64 @@ fn take<T: PartialEq + Drop>(all: &mut Vec<T>, wanted: &T) -> bool {
 }
 
 impl Reading<'_> {
-    /// The line of a column.
-    fn line(&self, column: usize) -> Option<&Line> {
-        let place = self.window.first.saturating_add(column);
-        self.story.lines.get(place)
+    /// The place of the line of a column.
+    fn line(&self, column: i64) -> usize {
+        self.window
+            .first
+            .saturating_add(usize::try_from(column).unwrap_or(0))
     }
 
-    fn differs<T>(&self, what: &str, column: usize) -> Result<T, Fault> {
-        let number = self.line(column).map_or(0, |line| line.number);
-        Err(Fault::Differs(format!(in self.alloc; "picture, line {number}: {what}")?))
+    fn differs<T>(&self, what: &str, column: i64) -> Result<T, Fail> {
+        let line = self.story.lines.get(self.line(column));
+        let number = line.map_or(0, |line| line.number);
+        Err(Fail::new(format_args!(
+            "picture of the seed {}, line {number}: {what}",
+            self.story.seed
+        )))
     }
 
     /// How many columns there are.
-    fn columns(&self) -> usize {
+    fn columns(&self) -> i64 {
         let before = self.window.last.saturating_sub(self.window.first);
-        before.saturating_add(1)
+        length(before).saturating_add(1)
     }
 
     /// Where a column begins.
-    fn begin(&self, column: usize) -> i64 {
-        let all = self.right.saturating_sub(self.left);
-        let wide = all.saturating_mul(length(column));
-        let before = wide.checked_div(length(self.columns())).unwrap_or(0);
+    fn begin(&self, column: i64) -> i64 {
+        let wide = self.right.saturating_sub(self.left).saturating_mul(column);
+        let before = wide.checked_div(self.columns()).unwrap_or(0);
         self.left.saturating_add(before)
     }
 
     /// The column that a place from left to right lies in.
-    fn column(&self, x: i64) -> usize {
+    fn column(&self, x: i64) -> i64 {
         let before = x.saturating_sub(self.left).max(0);
         let all = self.right.saturating_sub(self.left);
-        let columns = before.saturating_mul(length(self.columns()));
-        usize::try_from(columns.checked_div(all).unwrap_or(0)).unwrap_or(0)
+        before
+            .saturating_mul(self.columns())
+            .checked_div(all)
+            .unwrap_or(0)
     }
 
-    fn place(&self, x: i64) -> Place {
+    /// The same, for where a bar begins or ends.
+    fn place(&self, x: i64) -> i64 {
         if x <= self.left {
-            Place::Before
+            -1
         } else if x >= self.right {
-            Place::Edge
+            self.columns()
         } else {
-            Place::Column(self.column(x))
+            self.column(x)
         }
     }
 
     /// Where a line's column is among those of the picture.
-    fn place_of(&self, line: usize) -> Place {
+    fn place_of(&self, line: usize) -> i64 {
         if line < self.window.first {
-            Place::Before
+            -1
         } else if line > self.window.last {
-            Place::Edge
+            self.columns()
         } else {
-            Place::Column(line.saturating_sub(self.window.first))
+            length(line.saturating_sub(self.window.first))
         }
     }
 
@@ -212,119 +182,86 @@ impl Reading<'_> {
 /// The bars of the lanes.
 impl Reading<'_> {
     /// All bars are drawn, each in its lane and from column to column, and no others.
-    fn compare_bars(&mut self) -> Result<(), Fault> {
+    fn compare_bars(&self, bars: &mut u64) -> Result<(), Fail> {
         if self.heights.len() != self.lanes.len() {
             return self.differs("another number of lanes", 0);
         }
-        let (story, mut drawn) = (self.story, self.drawn_bars()?);
-        for bar in &story.bars {
+        let mut drawn = Vec::new(self.alloc);
+        for shape in &self.shapes {
+            if matches!(shape.class, "poll" | "drop" | "wait" | "hold") {
+                let (from, to) = (self.place(shape.number(0)), self.place(shape.right()));
+                drawn.push((self.lane_at(shape.middle()), shape.class, from, to))?;
+            }
+        }
+        for bar in &self.story.bars {
             if let Some(wanted) = self.wanted(bar) {
-                self.take_bar(&mut drawn, wanted)?;
+                if !take(&mut drawn, wanted) {
+                    return self.bar_differs("not drawn so", wanted);
+                }
+                raise(bars);
             }
         }
         match drawn.first() {
-            Some(bar) => self.bar_differs(*bar, "drawn, and not so"),
+            Some(bar) => self.bar_differs("drawn, and not so", *bar),
             None => Ok(()),
         }
     }
 
-    fn bar_differs(&self, bar: Placed, how: &str) -> Result<(), Fault> {
-        let column = match bar.from {
-            Place::Column(column) => column,
-            Place::Before | Place::Edge => 0,
-        };
-        let text = format!(in self.alloc; "{how}: {:?}", bar.kind)?;
-        self.differs(text.as_str(), column)
-    }
-
-    fn drawn_bars(&self) -> Result<Vec<Placed>, AllocError> {
-        let mut drawn = Vec::new(self.alloc);
-        for shape in &self.shapes {
-            if let Some(kind) = kind_of(shape.class) {
-                drawn.push(Placed {
-                    lane: self.lane_at(shape.middle()),
-                    kind,
-                    from: self.place(shape.number(0)),
-                    to: self.place(shape.right()),
-                })?;
-            }
-        }
-        Ok(drawn)
+    fn bar_differs(&self, how: &str, (_, class, from, _): Placed<'_>) -> Result<(), Fail> {
+        self.differs(format!(in self.alloc; "{how}: {class}")?.as_str(), from)
     }
 
     /// How a bar has to be drawn, if its time and that of the picture meet.
-    fn wanted(&self, bar: &Bar) -> Option<Placed> {
+    fn wanted(&self, bar: &Bar) -> Option<Placed<'static>> {
         if bar.from > self.window.last || bar.to.is_some_and(|to| to < self.window.first) {
             return None;
         }
-        Some(Placed {
-            lane: self.lane(bar.lane)?,
-            kind: bar.kind,
-            from: self.place_of(bar.from),
-            to: bar.to.map_or(Place::Edge, |to| self.place_of(to)),
-        })
-    }
-
-    fn take_bar(&mut self, drawn: &mut Vec<Placed>, wanted: Placed) -> Result<(), Fault> {
-        if !take(drawn, &wanted) {
-            return self.bar_differs(wanted, "not drawn so");
-        }
-        self.found.bars = self.found.bars.saturating_add(1);
-        Ok(())
+        let to = bar.to.map_or(self.columns(), |to| self.place_of(to));
+        Some((self.lane(bar.lane)?, bar.class, self.place_of(bar.from), to))
     }
 }
 
 /// The arrows.
 impl Reading<'_> {
     /// For each waker that was handed out there is an arrow, from the task that did it to one that had that waker.
-    fn compare_arrows(&mut self) -> Result<(), Fault> {
-        let (story, mut drawn) = (self.story, self.drawn_arrows()?);
-        for arrow in &story.arrows {
-            if self.window.has(arrow.line) {
-                self.take_arrow(&mut drawn, arrow)?;
+    fn compare_arrows(&self, arrows: &mut u64) -> Result<(), Fail> {
+        let mut drawn = self.drawn_arrows()?;
+        for arrow in &self.story.arrows {
+            if self.window.first <= arrow.line && arrow.line <= self.window.last {
+                if !self.take_arrow(&mut drawn, arrow) {
+                    let column = self.place_of(arrow.line);
+                    return self.differs("no arrow to a task that is called", column);
+                }
+                raise(arrows);
             }
         }
         match drawn.first() {
-            Some(arrow) => self.differs("an arrow to a task that is not called", arrow.column),
+            Some(arrow) => self.differs("an arrow to a task that is not called", arrow.0),
             None => Ok(()),
         }
     }
 
-    fn take_arrow(&mut self, drawn: &mut Vec<Drawn>, arrow: &Arrow) -> Result<(), Fault> {
-        let column = arrow.line.saturating_sub(self.window.first);
-        for called in &arrow.called {
-            if let (Some(caller), Some(called)) = (self.lane(arrow.caller), self.lane(*called)) {
-                let wanted = Drawn {
-                    column,
-                    caller,
-                    called,
-                };
-                if take(drawn, &wanted) {
-                    self.found.arrows = self.found.arrows.saturating_add(1);
-                    return Ok(());
-                }
-            }
-        }
-        self.differs("no arrow to a task that is called", column)
+    fn take_arrow(&self, drawn: &mut Vec<Drawn>, arrow: &Arrow) -> bool {
+        let Some(caller) = self.lane(arrow.caller) else {
+            return false;
+        };
+        let (column, called) = (self.place_of(arrow.line), &arrow.called);
+        called
+            .iter()
+            .filter_map(|place| self.lane(*place))
+            .any(|lane| take(drawn, (column, caller, lane)))
     }
 
     /// The arrows. Each goes from a tail to a tip, and then to both corners of its head.
-    fn drawn_arrows(&self) -> Result<Vec<Drawn>, Fault> {
+    fn drawn_arrows(&self) -> Result<Vec<Drawn>, Fail> {
         let mut drawn = Vec::new(self.alloc);
-        for shape in &self.shapes {
-            if shape.class != "wake" {
-                continue;
-            }
+        for shape in self.shapes.iter().filter(|shape| shape.class == "wake") {
             let (column, tail) = (self.column(shape.number(0)), shape.number(1));
             let (tip, corner) = (shape.number(2), shape.number(4));
             if (tail < tip) != (corner < tip) {
                 return self.differs("the head of an arrow points elsewhere", column);
             }
-            drawn.push(Drawn {
-                column,
-                caller: self.lane_at(tail),
-                called: self.lane_at(tip),
-            })?;
+            drawn.push((column, self.lane_at(tail), self.lane_at(tip)))?;
         }
         Ok(drawn)
     }
@@ -333,7 +270,7 @@ impl Reading<'_> {
 /// The band of the cell.
 impl Reading<'_> {
     /// At the end of each column the band says what the cell is after the line.
-    fn compare_band(&self) -> Result<(), Fault> {
+    fn compare_band(&self) -> Result<(), Fail> {
         for column in 0..self.columns() {
             let x = self.begin(column.saturating_add(1)).saturating_sub(1);
             let wanted = match self.cell(column).split_once(' ') {
@@ -341,31 +278,33 @@ impl Reading<'_> {
                 Some(("held", _)) => "held",
                 Some(_) => "set",
             };
-            if self.class_at(x) != wanted {
+            let is_here = |shape: &&Shape<'_>| {
+                is_of_cell(shape) && shape.number(0) <= x && x < shape.right()
+            };
+            if self
+                .shapes
+                .iter()
+                .find(is_here)
+                .map_or("", |shape| shape.class)
+                != wanted
+            {
                 return self.differs("the cell's band is of another kind", column);
             }
         }
         Ok(())
     }
 
-    /// The class of the part of the band that is here.
-    fn class_at(&self, x: i64) -> &str {
-        for shape in &self.shapes {
-            if is_of_cell(shape) && shape.number(0) <= x && x < shape.right() {
-                return shape.class;
-            }
-        }
-        ""
-    }
-
     /// What the cell is after the line of a column.
-    fn cell(&self, column: usize) -> &str {
-        self.line(column).map_or("", |line| line.cell.as_str())
+    fn cell(&self, column: i64) -> &str {
+        let place = self.line(column);
+        match self.story.lines.get(place) {
+            Some(line) => line.cell.as_str(),
+            None => "",
+        }
     }
 
     /// Each name of a holder, and each value, stands at the column of a line that makes it true.
-    fn compare_names(&mut self) -> Result<(), Fault> {
-        let mut names = 0u64;
+    fn compare_names(&self, names: &mut u64) -> Result<(), Fail> {
         for shape in &self.shapes {
             let (text, column) = (shape.text, self.column(shape.number(0)));
             if !text.starts_with("held by ") && !text.starts_with("set: ") {
@@ -374,18 +313,17 @@ impl Reading<'_> {
             if text != self.cell(column) && !self.is_claimed(column, text)? {
                 return self.differs("a name of the cell's state is not true", column);
             }
-            names = names.saturating_add(1);
+            raise(names);
         }
-        self.found.names = names;
         Ok(())
     }
 
     /// Whether a task claims in the line of this column, or held before the first, and has this name as a holder.
-    fn is_claimed(&self, column: usize, name: &str) -> Result<bool, AllocError> {
-        let line = self.window.first.saturating_add(column);
+    fn is_claimed(&self, column: i64, name: &str) -> Result<bool, AllocError> {
+        let line = self.line(column);
         for bar in &self.story.bars {
             let is_carried = column == 0 && bar.from < line && bar.to.is_none_or(|to| to >= line);
-            if bar.kind == BarKind::Hold && (bar.from == line || is_carried) {
+            if bar.class == "hold" && (bar.from == line || is_carried) {
                 let number = self.story.tasks.get(bar.lane).map_or(0, |task| task.number);
                 if format!(in self.alloc; "held by {number}")?.as_str() == name {
                     return Ok(true);

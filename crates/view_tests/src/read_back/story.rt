@@ -2,22 +2,15 @@
 ghost use Rattle.std.specs.Prelude.{OnOk};
 ghost use Rattle.once_script.specs.Reached.{IsReached};
 
-use super::fault::Fault;
 use super::words::{stand_word, ticket_of};
+use once_script::parse::{Line as ScriptLine, RUN_STEPS};
 use once_script::print::EntryLine;
-use once_script::world::{Call, Entry, Input, Ran, World};
+use once_script::world::{Call, Entry, Input, Kind, World};
 use std::alloc::{AllocError, Global};
+use std::test::Fail;
 
 /// How many listings a table shows at most.
 const SHOWN_LISTINGS: usize = 20;
-
-/// A line of a script, as it is written and as the world takes it.
-#[derive(Drop)]
-pub struct Said {
-    pub text: String,
-    pub input: Input,
-    pub times: u64,
-}
 
 /// What the world says after a line.
 #[derive(Drop)]
@@ -36,31 +29,20 @@ pub struct Line {
     pub cell: String,
 }
 
-/// A task, and what is open of it.
-#[derive(Drop)]
+/// A task: its number, and at which lines it was made and left.
+#[derive(Clone, Copy)]
 pub struct Task {
     pub number: u64,
     pub made: usize,
     pub gone: Option<usize>,
-    call: Option<(BarKind, usize)>,
-    waits: Option<usize>,
-    holds: Option<usize>,
 }
 
-/// What may last.
-#[derive(Clone, Copy, Debug, PartialEq, Eq)]
-pub enum BarKind {
-    Poll,
-    Drop,
-    Wait,
-    Hold,
-}
-
-/// Something that lasted, from one line to another or to the end.
+/// Something of a task that lasted, from one line to another or to the end: a poll, a drop, a wait or a hold, by the
+/// class of its shape.
 #[derive(Clone, Copy)]
 pub struct Bar {
     pub lane: usize,
-    pub kind: BarKind,
+    pub class: &'static str,
     pub from: usize,
     pub to: Option<usize>,
 }
@@ -74,17 +56,15 @@ pub struct Arrow {
 }
 
 /// A task that is listed and was not woken: its place, and its waker.
-#[derive(Clone, Copy, PartialEq, Eq)]
-struct Waiting {
-    lane: usize,
-    waker: u64,
-}
+type Waiting = (usize, u64);
 
 /// All that the world said.
 #[derive(Drop)]
 pub struct Story {
     alloc: Global,
-    pub is_lazy: bool,
+    /// That of the script.
+    pub seed: u64,
+    is_lazy: bool,
     pub tasks: Vec<Task>,
     pub lines: Vec<Line>,
     pub bars: Vec<Bar>,
@@ -94,17 +74,21 @@ pub struct Story {
 }
 
 impl Story {
-    /// Nothing was said yet of a cell which was made with this value, if it was made with one.
-    pub fn new(alloc: Global, is_lazy: bool, value: Option<u64>) -> Story {
+    /// Nothing was said yet of a cell of this kind.
+    pub fn new(alloc: Global, seed: u64, kind: &Kind) -> Story {
         Story {
             alloc,
-            is_lazy,
+            seed,
+            is_lazy: matches!(kind, Kind::Lazy(_) | Kind::LazyWith(_)),
             tasks: Vec::new(alloc),
             lines: Vec::new(alloc),
             bars: Vec::new(alloc),
             arrows: Vec::new(alloc),
             holder: None,
-            value: value.unwrap_or(0),
+            value: match kind {
+                Kind::OnceWith(value) | Kind::LazyWith(value) => *value,
+                Kind::Once | Kind::Lazy(_) => 0,
+            },
         }
     }
 
@@ -113,12 +97,23 @@ impl Story {
         self.tasks.iter().position(|task| task.number == number)
     }
 
-    /// The world takes a line with this number.
-    pub fn take(&mut self, world: &mut World, number: u64, said: Said) -> Result<(), Fault>
+    /// The world takes a line with this number and this text.
+    pub fn take(
+        &mut self,
+        world: &mut World,
+        number: u64,
+        text: String,
+        line: ScriptLine,
+    ) -> Result<(), Fail>
         requires reached { IsReached world.old }
         ensures reached { OnOk result (IsReached world.new) }
     {
-        let Said { text, input, times } = said;
+        let (input, times) = match line {
+            ScriptLine::Single(input) => (input, 1),
+            ScriptLine::Run(task, answer, is_granted) => {
+                (Input::Go(task, answer, is_granted), RUN_STEPS)
+            }
+        };
         let reason = self.reason(world, &input);
         let first = world.entries().len();
         for _ in 0..times {
@@ -128,11 +123,14 @@ impl Story {
             Some(reason) => told(self.alloc, reason)?,
             None => self.record(world, first)?,
         };
-        let named = named_by(&input).and_then(|task| self.place(task));
-        self.note_line(world, number, text, record, named, reason.is_some())
+        let named = match reason {
+            Some(_) => living(world, named_by(&input)),
+            None => named_by(&input),
+        };
+        self.note_line(world, number, text, record, named)
     }
 
-    fn step(&mut self, world: &mut World, input: &Input) -> Result<(), Fault>
+    fn step(&mut self, world: &mut World, input: &Input) -> Result<(), Fail>
         requires reached { IsReached world.old }
         ensures reached { OnOk result (IsReached world.new) }
     {
@@ -152,43 +150,32 @@ impl Story {
         for listing in &world.core().lists.listings(self.alloc)? {
             let of = |task: &Task| ticket_of(world.step_of(task.number)) == Some(listing.ticket);
             if let (Some(lane), Some(waker)) = (self.tasks.iter().position(of), listing.waker) {
-                all.push(Waiting { lane, waker })?;
+                all.push((lane, waker))?;
             }
         }
         Ok(all)
     }
 
-    /// Notes the first line, which says which cell it is.
-    pub fn note_first(&mut self, world: &World, number: u64, text: String) -> Result<(), Fault> {
-        let record = String::new(self.alloc);
-        self.note_line(world, number, text, record, None, false)
-    }
-
-    fn note_line(
+    /// Notes what the world says after a line that names this task, if it names one.
+    pub fn note_line(
         &mut self,
         world: &World,
         number: u64,
         text: String,
         record: String,
-        named: Option<usize>,
-        is_passed_over: bool,
-    ) -> Result<(), Fault> {
+        named: Option<u64>,
+    ) -> Result<(), Fail> {
         let mut stands = Vec::new(self.alloc);
         for task in &self.tasks {
             stands.push(stand_word(world.step_of(task.number)))?;
         }
-        let is_gone = named.is_some_and(|place| is_gone_at(&stands, place));
         let line = Line {
             number,
             text,
             shared: self.shared(world)?,
             stands,
             record,
-            named: if is_passed_over && is_gone {
-                None
-            } else {
-                named
-            },
+            named: named.and_then(|task| self.place(task)),
             cell: self.cell(world)?,
         };
         self.lines.push(line)?;
@@ -200,53 +187,47 @@ impl Story {
         let mut record = String::new(self.alloc);
         for entry in world.entries().get(first..).unwrap_or(&[]) {
             let gap = if record.is_empty() { "" } else { "; " };
-            record.push_str(format!(in self.alloc; "{gap}{}", EntryLine(entry))?.as_str())?;
+            write!(record, "{gap}{}", EntryLine(entry))?;
         }
         Ok(record)
     }
 
     fn shared(&self, world: &World) -> Result<String, AllocError> {
-        let core = world.core();
+        let (core, alloc) = (world.core(), self.alloc);
         let quick = if core.word.is_quick() { "quick" } else { "-" };
         let ready = if core.word.is_ready() { "ready" } else { "-" };
         let flag = if core.lists.head { "held" } else { "-" };
         let (count, listed) = (core.word.count(), self.listed(world)?);
-        match core.door {
-            Some(queue) => {
-                format!(in self.alloc; "{count}|{quick}|{ready}|queue {queue}|{flag}|{listed}")
-            }
-            None => format!(in self.alloc; "{count}|{quick}|{ready}|-|{flag}|{listed}"),
-        }
+        let door = match core.door {
+            Some(queue) => format!(in alloc; "queue {queue}")?,
+            None => String::from_str(alloc, "-")?,
+        };
+        format!(in alloc; "{count}|{quick}|{ready}|{door}|{flag}|{listed}")
     }
 
     fn listed(&self, world: &World) -> Result<String, AllocError> {
         let listings = world.core().lists.listings(self.alloc)?;
         let mut text = String::new(self.alloc);
         for listing in listings.iter().take(SHOWN_LISTINGS) {
-            let word = match listing.waker {
-                Some(waker) => format!(in self.alloc; "{}:{waker} ", listing.ticket)?,
-                None => format!(in self.alloc; "{}:called ", listing.ticket)?,
-            };
-            text.push_str(word.as_str())?;
-        }
-        match listings.len() {
-            0 => String::from_str(self.alloc, "-"),
-            many if many > SHOWN_LISTINGS => {
-                let more = many.saturating_sub(SHOWN_LISTINGS);
-                format!(in self.alloc; "{text}and {more} more")
+            let gap = if text.is_empty() { "" } else { " " };
+            match listing.waker {
+                Some(waker) => write!(text, "{gap}{}:{waker}", listing.ticket)?,
+                None => write!(text, "{gap}{}:called", listing.ticket)?,
             }
-            _ => String::from_str(self.alloc, text.as_str().trim_end()),
         }
+        match listings.len().saturating_sub(SHOWN_LISTINGS) {
+            0 if text.is_empty() => text.push_str("-")?,
+            0 => {}
+            more => write!(text, " and {more} more")?,
+        }
+        Ok(text)
     }
 
     /// What the cell is. The record and the flags have to agree on it.
-    fn cell(&self, world: &World) -> Result<String, Fault> {
+    fn cell(&self, world: &World) -> Result<String, Fail> {
         let (core, alloc) = (world.core(), self.alloc);
         if self.holder.is_some() != (core.word.is_quick() || core.lists.head) {
-            return Err(Fault::Differs(String::from_str(
-                alloc,
-                "the record and the flags differ on who holds",
-            )?));
+            return Err(Fail::new("the record and the flags differ on who holds"));
         }
         Ok(match self.holder {
             Some(task) => format!(in alloc; "held by {task}")?,
@@ -256,14 +237,15 @@ impl Story {
     }
 }
 
-/// Why an input is passed over: a text, the task that stands in it, and the text after that.
-type Reason = (&'static str, Option<u64>, &'static str);
+/// Why an input is passed over: a text, in which `#` stands for this task.
+type Reason = (&'static str, u64);
 
-fn told(alloc: Global, reason: Reason) -> Result<String, AllocError> {
-    match reason {
-        (text, None, _) => format!(in alloc; "(passed over: {text})"),
-        (text, Some(task), rest) => format!(in alloc; "(passed over: {text}{task}{rest})"),
-    }
+fn told(alloc: Global, (text, task): Reason) -> Result<String, AllocError> {
+    let task = format!(in alloc; "{task}")?;
+    format!(in alloc;
+        "(passed over: {})",
+        text.replace(alloc, '#', task.as_str())?
+    )
 }
 
 impl Story {
@@ -273,18 +255,18 @@ impl Story {
             Input::Own(call) => return self.owner_reason(world, call),
             Input::Make(task) => {
                 world.step_of(*task)?;
-                return Some(("task ", Some(*task), " was made before"));
+                return Some(("task # was made before", *task));
             }
             Input::Poll(task, _) | Input::Drop(task) => (*task, false),
             Input::Go(task, _, _) => (*task, true),
         };
         match (stand_word(world.step_of(task)), is_step) {
-            ("-", _) => Some(("task ", Some(task), " was not made")),
+            ("-", _) => Some(("task # was not made", task)),
             ("new" | "waits" | "holds", false) => None,
-            ("gone", false) => Some(("task ", Some(task), " is gone")),
-            (_, false) => Some(("a call of task ", Some(task), " is under way")),
+            ("gone", false) => Some(("task # is gone", task)),
+            (_, false) => Some(("a call of task # is under way", task)),
             ("new" | "waits" | "holds" | "gone", true) => {
-                Some(("no call of task ", Some(task), " is under way"))
+                Some(("no call of task # is under way", task))
             }
             (_, true) => None,
         }
@@ -292,15 +274,15 @@ impl Story {
 
     fn owner_reason(&self, world: &World, call: &Call) -> Option<Reason> {
         match (call, self.is_lazy) {
-            (Call::Take, true) => Some(("a lazy cell has no call `take`", None, "")),
-            (Call::Parts, false) => Some(("a once cell has no call `parts`", None, "")),
+            (Call::Take, true) => Some(("a lazy cell has no call `take`", 0)),
+            (Call::Parts, false) => Some(("a once cell has no call `parts`", 0)),
             (Call::ReplaceValue(_) | Call::ReplaceAnswers(_), false) => {
-                Some(("a once cell has no call `replace`", None, ""))
+                Some(("a once cell has no call `replace`", 0))
             }
             _ => {
                 let living = |task: &&Task| stand_word(world.step_of(task.number)) != "gone";
                 let task = self.tasks.iter().find(living)?;
-                Some(("task ", Some(task.number), " is not gone"))
+                Some(("task # is not gone", task.number))
             }
         }
     }
@@ -316,28 +298,25 @@ impl Story {
         after: &[Waiting],
     ) -> Result<(), AllocError> {
         match entry {
-            Entry::Made(task) => self.make(*task),
-            Entry::Begin(task, _) => self.begin(*task, BarKind::Poll),
-            Entry::DropBegin(task) => self.begin(*task, BarKind::Drop),
+            Entry::Made(task) => self.make(*task)?,
+            Entry::Begin(task, _) => self.begin(*task, "poll")?,
+            Entry::DropBegin(task) => self.begin(*task, "drop")?,
             Entry::Claim(task) => {
-                self.claim(*task);
-                Ok(())
+                self.holder = Some(*task);
+                self.open(*task, "hold")?;
             }
             Entry::Free(task, wakers) | Entry::Pass(task, wakers) => {
-                self.call(*task, wakers, before, after)
+                self.call(*task, wakers, before, after)?;
             }
             Entry::Fill(task, value, wakers) => {
                 self.value = *value;
-                self.call(*task, wakers, before, after)
+                self.call(*task, wakers, before, after)?;
             }
-            Entry::End(task, _) => self.end(world, *task),
-            Entry::DropEnd(task) => self.leave(*task),
-            Entry::Own(Call::Write(value) | Call::ReplaceValue(value), _) => {
-                self.value = *value;
-                Ok(())
-            }
-            Entry::Ran(_, _) | Entry::Look(_) | Entry::Own(_, _) => Ok(()),
+            Entry::End(task, _) | Entry::DropEnd(task) => self.end(world, *task)?,
+            Entry::Own(Call::Write(value) | Call::ReplaceValue(value), _) => self.value = *value,
+            Entry::Ran(_, _) | Entry::Look(_) | Entry::Own(_, _) => {}
         }
+        Ok(())
     }
 
     /// The place of the line that is being played.
@@ -346,63 +325,60 @@ impl Story {
     }
 
     fn make(&mut self, number: u64) -> Result<(), AllocError> {
+        let made = self.now();
         self.tasks.push(Task {
             number,
-            made: self.lines.len(),
+            made,
             gone: None,
-            call: None,
-            waits: None,
-            holds: None,
         })?;
         Ok(())
     }
 
-    fn task(&mut self, number: u64) -> Option<&mut Task> {
-        self.tasks.iter_mut().find(|task| task.number == number)
-    }
-
-    /// Something of this kind ended that began at this line, if it began.
-    fn close(&mut self, number: u64, kind: BarKind, from: Option<usize>) -> Result<(), AllocError> {
-        if let (Some(lane), Some(from)) = (self.place(number), from) {
-            let to = Some(self.now());
+    /// Something of this class begins of a task.
+    fn open(&mut self, number: u64, class: &'static str) -> Result<(), AllocError> {
+        let from = self.now();
+        if let Some(lane) = self.place(number) {
             self.bars.push(Bar {
                 lane,
-                kind,
+                class,
                 from,
-                to,
+                to: None,
             })?;
         }
         Ok(())
     }
 
-    fn begin(&mut self, number: u64, kind: BarKind) -> Result<(), AllocError> {
-        let now = self.now();
-        let Some(task) = self.task(number) else {
-            return Ok(());
-        };
-        task.call = Some((kind, now));
-        let waited = task.waits.take();
-        self.close(number, BarKind::Wait, waited)
+    /// What of these classes is open of a task ends. The answer is whether something did.
+    fn close(&mut self, number: u64, classes: &[&'static str]) -> bool {
+        let (now, lane, mut is_closed) = (self.now(), self.place(number), false);
+        for bar in &mut self.bars {
+            if Some(bar.lane) == lane && bar.to.is_none() && classes.contains(&bar.class) {
+                bar.to = Some(now);
+                is_closed = true;
+            }
+        }
+        is_closed
     }
 
-    fn claim(&mut self, number: u64) {
-        let now = self.now();
-        self.holder = Some(number);
-        if let Some(task) = self.task(number) {
-            task.holds = Some(now);
-        }
+    fn begin(&mut self, number: u64, class: &'static str) -> Result<(), AllocError> {
+        self.close(number, &["wait"]);
+        self.open(number, class)
     }
 
-    /// The task gives the right back, if it had it.
-    fn release(&mut self, number: u64) -> Result<(), AllocError> {
-        let Some(task) = self.task(number) else {
-            return Ok(());
-        };
-        let held = task.holds.take();
-        if held.is_some() {
-            self.holder = None;
+    /// A call ends, and with it perhaps its task.
+    fn end(&mut self, world: &World, number: u64) -> Result<(), AllocError> {
+        self.close(number, &["poll", "drop"]);
+        let now = self.now();
+        match stand_word(world.step_of(number)) {
+            "waits" => self.open(number, "wait")?,
+            "gone" => {
+                if let Some(task) = self.tasks.iter_mut().find(|task| task.number == number) {
+                    task.gone = Some(now);
+                }
+            }
+            _ => {}
         }
-        self.close(number, BarKind::Hold, held)
+        Ok(())
     }
 
     /// The task gives the right back, if it had it, and hands out wakers. Whom each wakes was listed with it
@@ -414,18 +390,19 @@ impl Story {
         before: &[Waiting],
         after: &[Waiting],
     ) -> Result<(), AllocError> {
-        self.release(number)?;
-        let Some(caller) = self.place(number) else {
+        if self.close(number, &["hold"]) {
+            self.holder = None;
+        }
+        let (line, Some(caller)) = (self.now(), self.place(number)) else {
             return Ok(());
         };
         for waker in wakers {
             let mut called = Vec::new(self.alloc);
             for one in before {
-                if one.waker == *waker && one.lane != caller && !after.contains(one) {
-                    called.push(one.lane)?;
+                if one.1 == *waker && one.0 != caller && !after.contains(one) {
+                    called.push(one.0)?;
                 }
             }
-            let line = self.now();
             self.arrows.push(Arrow {
                 line,
                 caller,
@@ -434,70 +411,13 @@ impl Story {
         }
         Ok(())
     }
-
-    /// The call that is under way ends.
-    fn close_call(&mut self, number: u64) -> Result<(), AllocError> {
-        let call = match self.task(number) {
-            Some(task) => task.call.take(),
-            None => None,
-        };
-        match call {
-            Some((kind, from)) => self.close(number, kind, Some(from)),
-            None => Ok(()),
-        }
-    }
-
-    fn end(&mut self, world: &World, number: u64) -> Result<(), AllocError> {
-        self.close_call(number)?;
-        let (now, stand) = (self.now(), stand_word(world.step_of(number)));
-        let Some(task) = self.task(number) else {
-            return Ok(());
-        };
-        match stand {
-            "waits" => task.waits = Some(now),
-            "gone" => task.gone = Some(now),
-            _ => {}
-        }
-        Ok(())
-    }
-
-    fn leave(&mut self, number: u64) -> Result<(), AllocError> {
-        self.close_call(number)?;
-        let now = self.now();
-        if let Some(task) = self.task(number) {
-            task.gone = Some(now);
-        }
-        Ok(())
-    }
-
-    /// What is still open at the end.
-    pub fn close_all(&mut self) -> Result<(), AllocError> {
-        for (lane, task) in self.tasks.iter().enumerate() {
-            for (kind, from) in &[
-                (BarKind::Wait, task.waits),
-                (BarKind::Hold, task.holds),
-                task.call
-                    .map_or((BarKind::Poll, None), |(kind, from)| (kind, Some(from))),
-            ] {
-                if let (kind, Some(from)) = (*kind, *from) {
-                    self.bars.push(Bar {
-                        lane,
-                        kind,
-                        from,
-                        to: None,
-                    })?;
-                }
-            }
-        }
-        Ok(())
-    }
 }
 
-/// Whether the task at this place is gone.
-fn is_gone_at(stands: &[&'static str], place: usize) -> bool {
-    match stands.get(place) {
-        Some(stand) => *stand == "gone",
-        None => false,
+/// This task, unless it is gone: a line that is passed over names none that is.
+fn living(world: &World, named: Option<u64>) -> Option<u64> {
+    match named {
+        Some(task) if stand_word(world.step_of(task)) == "gone" => None,
+        _ => named,
     }
 }
 
@@ -508,64 +428,5 @@ fn named_by(input: &Input) -> Option<u64> {
             Some(*task)
         }
         Input::Look | Input::Own(_) => None,
-    }
-}
-
-/// The line of a script for an input that is taken so many times.
-pub fn text_of(alloc: Global, input: &Input, times: u64) -> Result<String, AllocError> {
-    match input {
-        Input::Make(task) => numbered(alloc, "make", &[*task]),
-        Input::Poll(task, waker) => numbered(alloc, "poll", &[*task, *waker]),
-        Input::Drop(task) => numbered(alloc, "drop", &[*task]),
-        Input::Go(task, answer, is_granted) => step_line(alloc, times, *task, *answer, *is_granted),
-        Input::Look => numbered(alloc, "look", &[]),
-        Input::Own(Call::Take) => numbered(alloc, "take", &[]),
-        Input::Own(Call::Write(value)) => numbered(alloc, "write", &[*value]),
-        Input::Own(Call::Parts) => numbered(alloc, "parts", &[]),
-        Input::Own(Call::ReplaceValue(value)) => numbered(alloc, "replace with", &[*value]),
-        Input::Own(Call::ReplaceAnswers(answers)) => {
-            with_answers(alloc, numbered(alloc, "replace", &[])?, answers)
-        }
-    }
-}
-
-/// A line of these words, with these numbers at its end.
-pub fn numbered(alloc: Global, words: &str, numbers: &[u64]) -> Result<String, AllocError> {
-    let mut line = String::from_str(alloc, words)?;
-    for number in numbers {
-        line.push_str(format!(in alloc; " {number}")?.as_str())?;
-    }
-    Ok(line)
-}
-
-/// The line with these answers of an init at its end.
-pub fn with_answers(
-    alloc: Global,
-    mut line: String,
-    answers: &[Option<u64>],
-) -> Result<String, AllocError> {
-    for answer in answers {
-        match answer {
-            Some(value) => line.push_str(format!(in alloc; " v{value}")?.as_str())?,
-            None => line.push_str(" p")?,
-        }
-    }
-    Ok(line)
-}
-
-// `go 1 p`, or `run 1 p` for a whole call, with an `x` after it if memory is refused.
-fn step_line(
-    alloc: Global,
-    times: u64,
-    task: u64,
-    answer: Ran,
-    is_granted: bool,
-) -> Result<String, AllocError> {
-    let word = if times == 1 { "go" } else { "run" };
-    let refused = if is_granted { "" } else { " x" };
-    match answer {
-        Ran::Pending => format!(in alloc; "{word} {task} p{refused}"),
-        Ran::Value(value) => format!(in alloc; "{word} {task} v{value}{refused}"),
-        Ran::Error(error) => format!(in alloc; "{word} {task} e{error}{refused}"),
     }
 }

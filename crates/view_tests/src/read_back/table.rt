@@ -1,185 +1,157 @@
 //! A table that is read back.
-use super::fault::Fault;
+use super::Window;
 use super::story::{Line, Story};
+use super::tally::{Tally, raise};
 use std::alloc::{AllocError, Global};
+use std::test::Fail;
 
 /// How many tasks a table has columns for.
 const MOST_TASKS: usize = 20;
 
-/// The headers of the columns before those of the tasks.
-const HEADERS: [&str; 8] = [
-    "line", "script", "count", "quick", "ready", "door", "flag", "listed",
+/// How the words begin for where a task stands that lives, and how a part says that of tasks without a column.
+const OTHERS: [(&str, &str); 4] = [
+    ("new", "new"),
+    ("waits", "waiting"),
+    ("holds", "holding"),
+    ("> ", "in a call"),
 ];
-
-/// Some lines of a script, by their places, both included.
-#[derive(Clone, Copy)]
-pub struct Window {
-    pub first: usize,
-    pub last: usize,
-}
-
-impl Window {
-    pub fn has(self, line: usize) -> bool {
-        self.first <= line && line <= self.last
-    }
-}
 
 /// A table that is being read.
 #[derive(Drop)]
 struct Reading<'a> {
     alloc: Global,
     story: &'a Story,
-    window: Window,
     /// The place of the next line.
     at: usize,
     /// What the part says of tasks that it has no columns for.
-    others: String,
+    others: &'a str,
     /// The places of the tasks that the part has columns for.
     columns: Vec<usize>,
     cells: u64,
 }
 
-/// Compares a table with what the world says of these lines. Answers how many cells were compared.
-pub fn compare(alloc: Global, table: &str, story: &Story, window: Window) -> Result<u64, Fault> {
+/// Compares a table with what the world says of these lines.
+pub fn compare(
+    alloc: Global,
+    table: &str,
+    story: &Story,
+    window: Window,
+    tally: &mut Tally,
+) -> Result<(), Fail> {
     let mut reading = Reading {
         alloc,
         story,
-        window,
         at: window.first,
-        others: String::new(alloc),
+        others: "",
         columns: Vec::new(alloc),
-        cells: 0,
+        cells: tally.cells,
     };
-    reading.read_rows(table)?;
-    Ok(reading.cells)
-}
-
-/// The cells of a row: two blanks or more stand between two.
-fn cells_of(alloc: Global, row: &str) -> Result<Vec<&str>, AllocError> {
-    let mut cells = Vec::new(alloc);
-    for cell in row.split("  ") {
-        let cell = cell.trim();
-        if !cell.is_empty() {
-            cells.push(cell)?;
-        }
+    for row in table.lines() {
+        reading.read(row)?;
     }
-    Ok(cells)
+    tally.cells = reading.cells;
+    if reading.at != window.last.saturating_add(1) {
+        return reading.differs("the end", "more rows");
+    }
+    Ok(())
 }
 
-/// These cells with a bar between two.
-fn joined(alloc: Global, cells: &[&str]) -> Result<String, AllocError> {
-    let mut text = String::new(alloc);
-    for cell in cells {
-        text.push_str(if text.is_empty() { "" } else { "|" })?;
+/// The cells of a row with a bar between two, and how many they are. Two blanks or more stand between two cells.
+fn cells_of(alloc: Global, row: &str) -> Result<(String, u64), AllocError> {
+    let (mut text, mut count) = (String::new(alloc), 0u64);
+    for cell in row
+        .split("  ")
+        .map(|cell| cell.trim())
+        .filter(|cell| !cell.is_empty())
+    {
+        text.push_str(if count == 0 { "" } else { "|" })?;
         text.push_str(cell)?;
+        raise(&mut count);
     }
-    Ok(text)
+    Ok((text, count))
 }
 
-impl Reading<'_> {
-    fn read_rows(&mut self, table: &str) -> Result<(), Fault> {
-        for row in table.lines() {
-            if let Some(text) = row.strip_prefix("other tasks: ") {
-                self.others = String::from_str(self.alloc, text)?;
-            } else if row.starts_with("line") {
-                self.read_headers(row)?;
-            } else if row.is_empty() {
-                self.others.clear();
-            } else {
-                self.read_row(row)?;
-            }
-        }
-        if self.at != self.window.last.saturating_add(1) {
-            return self.differs("the end", "more rows");
+impl<'a> Reading<'a> {
+    fn read(&mut self, row: &'a str) -> Result<(), Fail> {
+        if let Some(others) = row.strip_prefix("other tasks: ") {
+            self.others = others;
+        } else if row.starts_with("line") {
+            self.read_headers(row)?;
+        } else if row.is_empty() {
+            self.others = "";
+        } else {
+            self.read_row(row)?;
         }
         Ok(())
     }
 
-    /// Reads the headers of a part. It has a column for each task that lives, or it says how many others there
-    /// are.
-    fn read_headers(&mut self, row: &str) -> Result<(), Fault> {
-        let cells = cells_of(self.alloc, row)?;
+    /// Reads the headers of a part. It has a column for each task that lives, or it says how many others there are.
+    fn read_headers(&mut self, row: &str) -> Result<(), Fail> {
         self.columns.clear();
-        for (index, cell) in cells.iter().enumerate() {
-            self.read_header(cell, index, cells.len())?;
+        let (found, _) = cells_of(self.alloc, row)?;
+        let first = "line|script|count|quick|ready|door|flag|listed";
+        let mut wanted = String::from_str(self.alloc, first)?;
+        for number in found.split("|task ").skip(1) {
+            let number = number.split_once('|').map_or(number, |(number, _)| number);
+            self.add_column(number)?;
+            write!(wanted, "|task {number}")?;
         }
-        if self.columns.len() > MOST_TASKS {
-            return self.differs(row, "so many tasks at most");
-        }
+        wanted.push_str("|record")?;
+        self.same(found.as_str(), wanted.as_str())?;
         let wanted = self.others_now()?;
-        self.same(self.others.as_str(), wanted.as_str())
-    }
-
-    /// Reads one header of `count`, by its index.
-    fn read_header(&mut self, cell: &str, index: usize, count: usize) -> Result<(), Fault> {
-        if let Some(header) = HEADERS.get(index) {
-            return self.same(cell, header);
-        }
-        if index.saturating_add(1) == count {
-            return self.same(cell, "record");
-        }
-        let number = cell.strip_prefix("task ").unwrap_or("");
-        match number.parse() {
-            Ok(number) => self.add_column(cell, self.story.place(number)),
-            Err(_) => self.differs(cell, "a task"),
-        }
+        self.same(self.others, wanted.as_str())
     }
 
     /// Columns are in the order in which their tasks were made, and none comes twice.
-    fn add_column(&mut self, cell: &str, place: Option<usize>) -> Result<(), Fault> {
-        let Some(place) = place else {
-            return self.differs(cell, "a task");
-        };
-        if self.columns.last().is_some_and(|last| *last >= place) {
-            return self.differs("a column", "one further on");
-        }
-        self.columns.push(place)?;
-        Ok(())
-    }
-
-    /// The line before the next one.
-    fn line_before(&self) -> Option<&Line> {
-        self.story.lines.get(self.at.checked_sub(1)?)
-    }
-
-    /// How many tasks live before the next line and have no column: new ones, those that wait, those that hold, and
-    /// those in a call.
-    fn counts_now(&self) -> [u64; 4] {
-        let mut counts = [0u64; 4];
-        if let Some(line) = self.line_before() {
-            for (place, stand) in line.stands.iter().enumerate() {
-                if !self.columns.contains(&place) {
-                    count(&mut counts, stand);
-                }
+    fn add_column(&mut self, number: &str) -> Result<(), Fail> {
+        let place = number
+            .parse()
+            .ok()
+            .and_then(|number| self.story.place(number));
+        let last = self.columns.last().copied();
+        match place {
+            Some(place)
+                if last.is_none_or(|last| last < place) && self.columns.len() < MOST_TASKS => {
+                self.columns.push(place)?;
+                Ok(())
             }
+            _ => self.differs(number, "a task, further on than the last, and 20 at most"),
         }
-        counts
     }
 
-    /// What the part is to say of tasks without a column: the counts in words, without those that are 0.
+    /// What the part is to say of tasks without a column: how many stand so in the line before, without those counts
+    /// that are 0.
     fn others_now(&self) -> Result<String, AllocError> {
         let mut text = String::new(self.alloc);
-        let counts = self.counts_now();
-        for (count, word) in counts
-            .iter()
-            .zip(&["new", "waiting", "holding", "in a call"])
-        {
-            if *count > 0 {
+        for (stand, word) in &OTHERS {
+            let count = self.others_before(stand);
+            if count > 0 {
                 let gap = if text.is_empty() { "" } else { ", " };
-                text.push_str(format!(in self.alloc; "{gap}{count} {word}")?.as_str())?;
+                write!(text, "{gap}{count} {word}")?;
             }
         }
         Ok(text)
     }
 
+    /// How many tasks without a column stand in the line before the next one at what begins so.
+    fn others_before(&self, stand: &str) -> u64 {
+        let (lines, mut count) = (&self.story.lines, 0u64);
+        if let Some(line) = self.at.checked_sub(1).and_then(|at| lines.get(at)) {
+            for (place, found) in line.stands.iter().enumerate() {
+                if found.starts_with(stand) && !self.columns.contains(&place) {
+                    raise(&mut count);
+                }
+            }
+        }
+        count
+    }
+
     /// Reads a row: all that the world says after its line.
-    fn read_row(&mut self, row: &str) -> Result<(), Fault> {
-        let story = self.story;
-        let Some(line) = story.lines.get(self.at) else {
+    fn read_row(&mut self, row: &str) -> Result<(), Fail> {
+        let Some(line) = self.story.lines.get(self.at) else {
             return self.differs(row, "no row");
         };
-        let cells = cells_of(self.alloc, row)?;
-        let (found, wanted) = (joined(self.alloc, &cells)?, self.wanted(line)?);
+        let ((found, count), wanted) = (cells_of(self.alloc, row)?, self.wanted(line)?);
         self.same(found.as_str(), wanted.as_str())?;
         if line
             .named
@@ -187,20 +159,15 @@ impl Reading<'_> {
         {
             return self.differs(row, "a column for the task that it names");
         }
-        self.cells = self.cells.saturating_add(cells.len() as u64);
+        self.cells = self.cells.saturating_add(count);
         self.at = self.at.saturating_add(1);
         Ok(())
     }
 
     /// The cells of a line, with a bar between two.
     fn wanted(&self, line: &Line) -> Result<String, AllocError> {
-        let Line {
-            number,
-            text,
-            shared,
-            ..
-        } = line;
-        let mut wanted = format!(in self.alloc; "{number}|{text}|{shared}")?;
+        let mut wanted = String::new(self.alloc);
+        write!(wanted, "{}|{}|{}", line.number, line.text, line.shared)?;
         for place in &self.columns {
             wanted.push_str("|")?;
             wanted.push_str(line.stands.get(*place).copied().unwrap_or("-"))?;
@@ -212,32 +179,18 @@ impl Reading<'_> {
         Ok(wanted)
     }
 
-    fn same(&self, read: &str, wanted: &str) -> Result<(), Fault> {
+    fn same(&self, read: &str, wanted: &str) -> Result<(), Fail> {
         if read == wanted {
             return Ok(());
         }
         self.differs(read, wanted)
     }
 
-    fn differs<T>(&self, read: &str, wanted: &str) -> Result<T, Fault> {
+    fn differs<T>(&self, read: &str, wanted: &str) -> Result<T, Fail> {
         let number = self.story.lines.get(self.at).map_or(0, |line| line.number);
-        Err(Fault::Differs(format!(in self.alloc;
-            "table, line {number}: \"{read}\", and not \"{wanted}\""
-        )?))
+        Err(Fail::new(format_args!(
+            "table of the seed {}, line {number}: \"{read}\", and not \"{wanted}\"",
+            self.story.seed
+        )))
     }
-}
-
-/// Counts a task that stands so among the new ones, those that wait, those that hold, and those in a call.
-fn count(counts: &mut [u64; 4], stand: &str) {
-    match stand {
-        "gone" => {}
-        "new" => raise(&mut counts[0]),
-        "waits" => raise(&mut counts[1]),
-        "holds" => raise(&mut counts[2]),
-        _ => raise(&mut counts[3]),
-    }
-}
-
-fn raise(count: &mut u64) {
-    *count = count.saturating_add(1);
 }

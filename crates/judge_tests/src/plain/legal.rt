@@ -1,6 +1,6 @@
 //! Which entry may come next, and where somebody is forgotten.
 
-use super::{Cell, LastCall, Rules, Status, task_of};
+use super::{Cell, LastCall, Rules, Status, task_of, value_in};
 use once_machine::record::{Call, Entry, Got, Kind, Ran, Reply};
 
 impl Rules<'_> {
@@ -87,15 +87,12 @@ impl Rules<'_> {
     fn may_pass(self, t: u64, wakers: &[u64], h: &[Entry]) -> bool {
         let call = self.last_call(t, h);
         let may = match self.status(t, h) {
-            Status::Dropping => !call.passed,
-            Status::Polling => !call.passed && !call.claimed && call.ran.is_none(),
+            Status::Dropping => true,
+            Status::Polling => !call.claimed && call.ran.is_none(),
             _ => false,
         };
-        may && self.cell(h) == Cell::Empty && self.passes_to(wakers, h)
-    }
-
-    fn passes_to(self, wakers: &[u64], h: &[Entry]) -> bool {
-        matches!(wakers, [waker] if self.is_open(*waker, h))
+        let is_one = matches!(wakers, [waker] if self.is_open(*waker, h));
+        may && !call.passed && self.cell(h) == Cell::Empty && is_one
     }
 
     // A call that passed its turn on may only end for want of memory.
@@ -166,28 +163,24 @@ impl Rules<'_> {
 
     // How many other tasks than this one are in a call; or about, if that is asked.
     fn others(self, t: u64, h: &[Entry], fact: Fact) -> usize {
-        let mut count = 0usize;
-        for entry in h {
-            if let Entry::Made(u) = entry {
-                let status = self.status(*u, h);
-                let counts = match fact {
-                    Fact::Crowded => is_about(status),
-                    _ => is_under_way(status),
-                };
-                if *u != t && counts {
-                    count = count.saturating_add(1);
-                }
-            }
-        }
-        count
+        let others = h
+            .iter()
+            .filter(|entry| matches!(entry, Entry::Made(u) if *u != t));
+        others
+            .filter_map(task_of)
+            .filter(|u| match self.status(*u, h) {
+                Status::Polling | Status::Dropping => true,
+                Status::Waiting | Status::Holding => matches!(fact, Fact::Crowded),
+                _ => false,
+            })
+            .count()
     }
 
     fn may_own(self, call: &Call, got: &Got, h: &[Entry]) -> bool {
-        let all_gone = h.iter().all(|entry| match entry {
-            Entry::Made(t) => self.status(*t, h) == Status::Gone,
-            _ => true,
-        });
-        all_gone && self.has_call(call) && self.gives(call, got, h)
+        let mut tasks = h.iter().filter_map(task_of);
+        tasks.all(|t| self.status(t, h) == Status::Gone)
+            && self.has_call(call)
+            && self.gives(call, got, h)
     }
 
     // Whether a cell of this kind has the call.
@@ -202,19 +195,12 @@ impl Rules<'_> {
 
     // Whether this is what the call is given after these entries.
     fn gives(self, call: &Call, got: &Got, h: &[Entry]) -> bool {
-        match value_in(self.cell(h)) {
-            Some(v) => matches!(got, Got::Value(u) if *u == v),
-            None => self.gives_no_value(call, got, h),
-        }
-    }
-
-    fn gives_no_value(self, call: &Call, got: &Got, h: &[Entry]) -> bool {
-        match got {
-            Got::None => !matches!(call, Call::Parts),
-            Got::Answers(answers) => {
-                matches!(call, Call::Parts) && answers.as_slice() == self.answers_left(h)
-            }
-            Got::Value(_) => false,
+        let is_parts = matches!(call, Call::Parts);
+        match (value_in(self.cell(h)), got) {
+            (Some(v), Got::Value(u)) => *u == v,
+            (None, Got::None) => !is_parts,
+            (None, Got::Answers(answers)) => is_parts && answers.as_slice() == self.answers_left(h),
+            _ => false,
         }
     }
 
@@ -258,22 +244,4 @@ enum Fact {
 
 fn may_begin(status: Status) -> bool {
     matches!(status, Status::Fresh | Status::Waiting | Status::Holding)
-}
-
-fn is_under_way(status: Status) -> bool {
-    matches!(status, Status::Polling | Status::Dropping)
-}
-
-fn is_about(status: Status) -> bool {
-    matches!(
-        status,
-        Status::Polling | Status::Dropping | Status::Waiting | Status::Holding
-    )
-}
-
-fn value_in(cell: Cell) -> Option<u64> {
-    match cell {
-        Cell::SetTo(v) => Some(v),
-        _ => None,
-    }
 }

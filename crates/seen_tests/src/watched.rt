@@ -1,12 +1,12 @@
 //! Replays at random, of which is told what can be seen from outside: a run is found that has it.
 
-use crate::chance::Chance;
-use crate::records::record;
 use crate::seen::run_of;
 use once_script::parse::record::RecordText;
 use once_script::print::FullLine;
 use once_script::world::Entry;
 use once_view::observed::{Event, Observed};
+use script_doubles::chance::Chance;
+use script_doubles::records::record;
 use std::alloc::{AllocError, Global};
 use std::test::Fail;
 

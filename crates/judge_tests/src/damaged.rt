@@ -1,13 +1,13 @@
 //! Records of replays at random, whole and with one entry dropped, doubled or exchanged: the judge and the plain
 //! definitions say the same of each, by the rule that a failure wakes one, and by the rule that it wakes all.
 
-use crate::chance::Chance;
 use crate::plain::Rules;
-use crate::records::{answer, call, record, task, waker};
 use crate::same::same;
 use once_judge::{Calls, judge};
 use once_script::parse::record::RecordText;
 use once_script::world::{Entry, Got, Reply};
+use script_doubles::chance::Chance;
+use script_doubles::records::{answer, call, record, task, waker};
 use std::alloc::{AllocError, Global};
 use std::process::Abort;
 use std::test::Fail;
@@ -74,7 +74,7 @@ fn to_all(alloc: Global, rules: Rules<'_>, entries: Vec<Entry>) -> Result<Vec<En
     Ok(to_all)
 }
 
-// Compares what the judge says of a record with what the definitions do. The answer is whether it is a run.
+// What the judge says of a record is what the definitions do. The answer is whether it is a run.
 fn compare(
     rt: &impl Abort,
     alloc: Global,
@@ -82,103 +82,95 @@ fn compare(
     rules: Rules<'_>,
     entries: &[Entry],
 ) -> Result<bool, AllocError> {
-    let calls = if rules.calls_all {
-        Calls::All
-    } else {
-        Calls::One
-    };
-    let verdict = judge(alloc, rules.kind, rules.limit, calls, entries)?;
+    let verdict = judge(alloc, rules.kind, rules.limit, rules.calls, entries)?;
     let fault = rules.first_fault(entries);
     let end = fault.unwrap_or(entries.len()).min(entries.len());
+    let wanted = [fault, rules.first_forgotten(&entries[..end])];
     let found = [
         verdict.fault.map(|f| f.entry),
         verdict.forgotten.map(|f| f.entry),
     ];
-    let wanted = [fault, rules.first_forgotten(&entries[..end])];
     same(rt, (seed, found), (seed, wanted));
     Ok(fault.is_none())
 }
 
-// Compares a record that is a run, and then damages it five times and compares each time. The answer is how many of
-// the damaged ones are runs.
-fn compare_damaged(
+// How many were so of the records that were compared.
+#[derive(Clone, Copy, Drop)]
+struct Counts {
+    // That are runs, though they are damaged.
+    runs: u64,
+    // That are runs by the rule that a failure wakes all, and by no other.
+    apart: u64,
+}
+
+impl Counts {
+    // Compares the record of a seed, which is a run by the rule, and then damages it five times and compares each time.
+    fn compare_seed(
+        &mut self,
+        rt: &impl Abort,
+        alloc: Global,
+        seed: u64,
+        calls: Calls,
+    ) -> Result<(), AllocError> {
+        let mut chance = Chance::new(seed);
+        let calls_all = matches!(calls, Calls::All);
+        let RecordText {
+            kind,
+            limit,
+            mut entries,
+        } = record(alloc, &mut chance, calls_all)?;
+        let rules = Rules {
+            kind: &kind,
+            limit,
+            calls,
+        };
+        if calls_all {
+            entries = to_all(alloc, rules, entries)?;
+            let one = Rules {
+                calls: Calls::One,
+                ..rules
+            };
+            let is_run = compare(rt, alloc, seed, one, &entries)?;
+            self.apart = self.apart.saturating_add(u64::from(!is_run));
+        }
+        let is_run = compare(rt, alloc, seed, rules, &entries)?;
+        same(rt, (seed, is_run), (seed, true));
+        for _ in 0..5 {
+            damage(alloc, &mut chance, &mut entries)?;
+            let is_run = compare(rt, alloc, seed, rules, &entries)?;
+            self.runs = self.runs.saturating_add(u64::from(is_run));
+        }
+        Ok(())
+    }
+}
+
+// Compares so many records by this rule.
+fn compare_all(
     rt: &impl Abort,
     alloc: Global,
-    seed: u64,
-    chance: &mut Chance,
-    rules: Rules<'_>,
-    mut entries: Vec<Entry>,
-) -> Result<u64, AllocError> {
-    let is_run = compare(rt, alloc, seed, rules, &entries)?;
-    same(rt, (seed, is_run), (seed, true));
-    let mut runs = 0u64;
-    for _ in 0..5 {
-        damage(alloc, chance, &mut entries)?;
-        let is_run = compare(rt, alloc, seed, rules, &entries)?;
-        runs = runs.saturating_add(u64::from(is_run));
+    seeds: u64,
+    calls: Calls,
+) -> Result<Counts, AllocError> {
+    let mut counts = Counts { runs: 0, apart: 0 };
+    for seed in 0..seeds {
+        counts.compare_seed(rt, alloc, seed, calls)?;
     }
-    Ok(runs)
-}
-
-// One record by the rule that a failure wakes one.
-fn compare_one(rt: &impl Abort, alloc: Global, seed: u64) -> Result<u64, AllocError> {
-    let mut chance = Chance::new(seed);
-    let RecordText {
-        kind,
-        limit,
-        entries,
-    } = record(alloc, &mut chance, false)?;
-    let rules = Rules {
-        kind: &kind,
-        limit,
-        calls_all: false,
-    };
-    compare_damaged(rt, alloc, seed, &mut chance, rules, entries)
-}
-
-// One record by the rule that a failure wakes all: whether it is a run by that rule alone, and how many of the damaged
-// ones are runs.
-fn compare_all(rt: &impl Abort, alloc: Global, seed: u64) -> Result<(bool, u64), AllocError> {
-    let mut chance = Chance::new(seed);
-    let RecordText {
-        kind,
-        limit,
-        entries,
-    } = record(alloc, &mut chance, true)?;
-    let rules = Rules {
-        kind: &kind,
-        limit,
-        calls_all: true,
-    };
-    let entries = to_all(alloc, rules, entries)?;
-    let one = Rules {
-        calls_all: false,
-        ..rules
-    };
-    let is_apart = !compare(rt, alloc, seed, one, &entries)?;
-    let runs = compare_damaged(rt, alloc, seed, &mut chance, rules, entries)?;
-    Ok((is_apart, runs))
+    Ok(counts)
 }
 
 #[test]
 fn judge_and_definitions_say_the_same(rt: HostRuntime) -> Result<(), Fail> {
-    let mut runs = 0u64;
-    for seed in 0..2_000 {
-        runs = runs.saturating_add(compare_one(&rt, rt.alloc(), seed)?);
-    }
+    let runs = compare_all(&rt, rt.alloc(), 2_000, Calls::One)?.runs;
     assert!(rt; runs > 500, "{runs} damaged records are runs");
     Ok(())
 }
 
 #[test]
 fn they_say_the_same_of_cells_that_call_all(rt: HostRuntime) -> Result<(), Fail> {
-    let (mut apart, mut runs) = (0u64, 0u64);
-    for seed in 0..400 {
-        let (is_apart, more) = compare_all(&rt, rt.alloc(), seed)?;
-        apart = apart.saturating_add(u64::from(is_apart));
-        runs = runs.saturating_add(more);
-    }
-    assert!(rt; apart > 50, "{apart} records are runs by one rule alone");
-    assert!(rt; runs > 100, "{runs} damaged records are runs");
+    let Counts { runs, apart } = compare_all(&rt, rt.alloc(), 400, Calls::All)?;
+    assert!(rt;
+        apart > 50 && runs > 100,
+        "{apart} records are apart, {runs} damaged ones are runs"
+    );
     Ok(())
 }

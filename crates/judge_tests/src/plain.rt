@@ -3,6 +3,7 @@
 
 mod legal;
 
+use once_judge::Calls;
 use once_machine::record::{Call, Entry, Kind, Ran, Reply};
 
 /// What a cell is.
@@ -38,13 +39,24 @@ struct LastCall {
     ran: Option<Ran>,
 }
 
+const NO_CALL: LastCall = LastCall {
+    waker: 0,
+    listed: 0,
+    began: Status::Unmade,
+    set_then: false,
+    claimed: false,
+    freed: false,
+    passed: false,
+    ran: None,
+};
+
 /// A cell of this kind, in which so many tasks may be counted in, and whose releases without a value wake one task or
 /// all.
 #[derive(Clone, Copy)]
 pub struct Rules<'a> {
     pub kind: &'a Kind,
     pub limit: u64,
-    pub calls_all: bool,
+    pub calls: Calls,
 }
 
 fn task_of(entry: &Entry) -> Option<u64> {
@@ -71,10 +83,7 @@ fn handed_by<'e>(entry: &'e Entry) -> &'e [u64] {
 }
 
 fn is_replacing(entry: &Entry) -> bool {
-    match entry {
-        Entry::Own(call, _) => !matches!(call, Call::Write(_)),
-        _ => false,
-    }
+    matches!(entry, Entry::Own(call, _) if !matches!(call, Call::Write(_)))
 }
 
 fn times_in(waker: u64, wakers: &[u64]) -> usize {
@@ -83,21 +92,13 @@ fn times_in(waker: u64, wakers: &[u64]) -> usize {
 
 // What an entry makes of the cell.
 fn cell_after(entry: &Entry, cell: Cell) -> Cell {
-    match entry {
-        Entry::Claim(t) => Cell::Held(*t),
-        Entry::Free(_, _) => Cell::Empty,
-        Entry::Fill(_, v, _) => Cell::SetTo(*v),
-        Entry::Own(call, _) => cell_after_call(call, cell),
+    match (entry, cell) {
+        (Entry::Claim(t), _) => Cell::Held(*t),
+        (Entry::Fill(_, v, _) | Entry::Own(Call::ReplaceValue(v), _), _) => Cell::SetTo(*v),
+        (Entry::Own(Call::Write(v), _), Cell::SetTo(_)) => Cell::SetTo(*v),
+        (Entry::Own(Call::Write(_), _), _) => cell,
+        (Entry::Free(_, _) | Entry::Own(_, _), _) => Cell::Empty,
         _ => cell,
-    }
-}
-
-fn cell_after_call(call: &Call, cell: Cell) -> Cell {
-    match call {
-        Call::Write(v) if matches!(cell, Cell::SetTo(_)) => Cell::SetTo(*v),
-        Call::Write(_) => cell,
-        Call::ReplaceValue(v) => Cell::SetTo(*v),
-        Call::Take | Call::Parts | Call::ReplaceAnswers(_) => Cell::Empty,
     }
 }
 
@@ -105,16 +106,9 @@ fn cell_after_call(call: &Call, cell: Cell) -> Cell {
 fn left_after<'e>(entry: &'e Entry, left: &'e [Option<u64>]) -> &'e [Option<u64>] {
     match entry {
         Entry::Ran(_, _) => left.get(1..).unwrap_or(&[]),
-        Entry::Own(call, _) => left_after_call(call, left),
+        Entry::Own(Call::Parts | Call::ReplaceValue(_), _) => &[],
+        Entry::Own(Call::ReplaceAnswers(answers), _) => answers,
         _ => left,
-    }
-}
-
-fn left_after_call<'e>(call: &'e Call, left: &'e [Option<u64>]) -> &'e [Option<u64>] {
-    match call {
-        Call::Parts | Call::ReplaceValue(_) => &[],
-        Call::ReplaceAnswers(answers) => answers,
-        Call::Take | Call::Write(_) => left,
     }
 }
 
@@ -152,22 +146,17 @@ impl<'a> Rules<'a> {
         let mut status = Status::Unmade;
         for (index, entry) in h.iter().enumerate() {
             if task_of(entry) == Some(t) {
-                status = self.status_after(entry, status, t, &h[..index]);
+                status = match entry {
+                    Entry::Made(_) => Status::Fresh,
+                    Entry::Begin(_, _) => Status::Polling,
+                    Entry::DropBegin(_) => Status::Dropping,
+                    Entry::End(_, Reply::Pending) => self.rests(t, &h[..index]),
+                    Entry::End(_, _) | Entry::DropEnd(_) => Status::Gone,
+                    _ => status,
+                };
             }
         }
         status
-    }
-
-    // What a task is at after its entry, which comes after the entries `h`.
-    fn status_after(self, entry: &Entry, status: Status, t: u64, h: &[Entry]) -> Status {
-        match entry {
-            Entry::Made(_) => Status::Fresh,
-            Entry::Begin(_, _) => Status::Polling,
-            Entry::DropBegin(_) => Status::Dropping,
-            Entry::End(_, Reply::Pending) => self.rests(t, h),
-            Entry::End(_, _) | Entry::DropEnd(_) => Status::Gone,
-            _ => status,
-        }
     }
 
     // What a task is at whose poll ends Pending after the entries `h`.
@@ -180,49 +169,32 @@ impl<'a> Rules<'a> {
     }
 
     fn last_call(self, t: u64, h: &[Entry]) -> LastCall {
-        let mut call = LastCall {
-            waker: 0,
-            listed: 0,
-            began: Status::Unmade,
-            set_then: false,
-            claimed: false,
-            freed: false,
-            passed: false,
-            ran: None,
-        };
+        let mut call = NO_CALL;
         for (index, entry) in h.iter().enumerate() {
             if task_of(entry) == Some(t) {
-                self.note(entry, &mut call, t, &h[..index]);
+                match entry {
+                    Entry::Begin(_, waker) => call = self.begun(*waker, call, t, &h[..index]),
+                    Entry::DropBegin(_) => call = self.begun(call.waker, call, t, &h[..index]),
+                    Entry::Claim(_) => call.claimed = true,
+                    Entry::Free(_, _) => call.freed = true,
+                    Entry::Pass(_, _) => call.passed = true,
+                    Entry::Ran(_, answer) => call.ran = Some(*answer),
+                    Entry::End(_, Reply::Pending) => call.listed = call.waker,
+                    _ => {}
+                }
             }
         }
         call
     }
 
-    // Notes an entry of the task, which comes after the entries `h`.
-    fn note(self, entry: &Entry, call: &mut LastCall, t: u64, h: &[Entry]) {
-        match entry {
-            Entry::Begin(_, waker) => *call = self.begun(*waker, call.listed, t, h),
-            Entry::DropBegin(_) => *call = self.begun(call.waker, call.listed, t, h),
-            Entry::Claim(_) => call.claimed = true,
-            Entry::Free(_, _) => call.freed = true,
-            Entry::Pass(_, _) => call.passed = true,
-            Entry::Ran(_, answer) => call.ran = Some(*answer),
-            Entry::End(_, Reply::Pending) => call.listed = call.waker,
-            _ => {}
-        }
-    }
-
-    // A call with this waker, of a task that was listed with the other, which begins after the entries `h`.
-    fn begun(self, waker: u64, listed: u64, t: u64, h: &[Entry]) -> LastCall {
+    // The call with this waker that a task begins after the entries `h`, and after this call.
+    fn begun(self, waker: u64, before: LastCall, t: u64, h: &[Entry]) -> LastCall {
         LastCall {
             waker,
-            listed,
+            listed: before.listed,
             began: self.status(t, h),
-            set_then: matches!(self.cell(h), Cell::SetTo(_)),
-            claimed: false,
-            freed: false,
-            passed: false,
-            ran: None,
+            set_then: value_in(self.cell(h)).is_some(),
+            ..NO_CALL
         }
     }
 
@@ -263,20 +235,14 @@ impl<'a> Rules<'a> {
 
     // Whether an entry after these ends a poll with this waker, whose task waits from then on.
     fn opens(self, entry: &Entry, waker: u64, h: &[Entry]) -> bool {
-        match entry {
-            Entry::End(t, Reply::Pending) => {
-                self.other_holds(*t, h) && self.last_call(*t, h).waker == waker
-            }
-            _ => false,
-        }
+        matches!(entry, Entry::End(t, Reply::Pending)
+            if self.other_holds(*t, h) && self.last_call(*t, h).waker == waker)
     }
 
     // Whether some waker is due that is not among these.
     fn is_due_outside(self, wakers: &[u64], h: &[Entry]) -> bool {
-        h.iter().any(|entry| match entry {
-            Entry::Begin(_, waker) => !wakers.contains(waker) && self.is_due(*waker, h),
-            _ => false,
-        })
+        h.iter().any(|entry| matches!(entry, Entry::Begin(_, waker)
+            if !wakers.contains(waker) && self.is_due(*waker, h)))
     }
 
     fn hands_out(self, wakers: &[u64], h: &[Entry]) -> bool {
@@ -286,18 +252,18 @@ impl<'a> Rules<'a> {
 
     // Whether a release without a value may hand these out.
     fn frees_to(self, wakers: &[u64], h: &[Entry]) -> bool {
-        if self.calls_all {
-            self.hands_out(wakers, h)
-        } else {
-            self.calls_one(wakers, h)
+        match (self.calls, wakers) {
+            (Calls::All, _) => self.hands_out(wakers, h),
+            (Calls::One, []) => !self.is_due_outside(&[], h),
+            (Calls::One, [waker]) => self.is_open(*waker, h),
+            (Calls::One, _) => false,
         }
     }
+}
 
-    fn calls_one(self, wakers: &[u64], h: &[Entry]) -> bool {
-        match wakers {
-            [] => !self.is_due_outside(&[], h),
-            [waker] => self.is_open(*waker, h),
-            _ => false,
-        }
+fn value_in(cell: Cell) -> Option<u64> {
+    match cell {
+        Cell::SetTo(v) => Some(v),
+        _ => None,
     }
 }
