@@ -157,7 +157,7 @@ impl<T, X: Failure, F: Future<Output: Gives<T, X>>> Init<T, X> for Pollable<F> {
         let Some(pollable) = init.take() else {
             unreachable!()
         };
-        pollable.ask(cx).recorded(init, right)
+        pollable.ask(cx, init, right)
     }
 }
 
