@@ -1,5 +1,5 @@
 //! Whole polls and drops of a task.
-ghost use Rattle.std.specs.Prelude.{◌≡◌, ◌∷◌, [], false};
+ghost use Rattle.std.specs.Prelude.{◌≡◌, ◌↔◌, ◌∷◌, [], false};
 ghost use Rattle.async_once_cell.specs.Inner.Prelude.{Ending, GivesFit, Grew, IsReady, end_of};
 
 use async_once_cell::inner::{Task, TaskSide, TaskWaker};
@@ -14,8 +14,8 @@ pub enum Call {
     Leave,
 }
 
-/// A poll or a drop, as the caller says. The newest entry of the record says that it ended as is answered. Only a poll
-/// asks that the init is there.
+/// A poll or a drop, as the caller says, of which only a drop ends as one. The newest entry of the record says that it
+/// ended as is answered. Only a poll asks that the init is there.
 pub fn called<T, W, R, V, S>(
     task: &mut Task<'_, '_, T, W, R, V>,
     side: &mut S,
@@ -31,7 +31,8 @@ where
     requires nobody_woken { (S.state side.old).woke ≡ [] }
     requires init { call ≡ Call.Poll → IsReady (S.state side.old) }
     requires fits { GivesFit S.hands S.has_slot V.fits side.old task.old.cell }
-    ensures { Grew (end_of task.new.number result ∷ []) task.old.log task.new.log }
+    ensures ends { Grew (end_of task.new.number result ∷ []) task.old.log task.new.log }
+    ensures left { (call ≡ Call.Leave) ↔ (result ≡ Ending.Dropped) }
 {
     match call {
         Call::Poll => task.poll(side),

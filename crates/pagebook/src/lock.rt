@@ -4,7 +4,7 @@
 //! this is the book of its words and tokens. If a type parameter named the book, every struct around the lock would
 //! have it, and nobody could make a book while a program runs. So its name is a value here: a clause sees a
 //! `KeyedMutex` as the `LockKey` of its content, and the locks of two books have one type. Besides the `book`, a key
-//! has the numbers `about` which the content promises something, as a `Slot` has. `of_book` and `of_numbers` of
+//! has `about`, the numbers about which the content promises something, as a `Slot` has. `of_book` and `of_numbers` of
 //! `specs/Pages.antt` make a key of one of the two.
 //!
 //! ```text

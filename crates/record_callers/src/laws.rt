@@ -1,6 +1,6 @@
 //! What follows of a cell that tasks share, by the laws of all runs, from what a token or a future has seen of it.
-ghost use Rattle.std.specs.Prelude.{◌≡◌, ◌≤◌, ◌⊎◌, ◌∷◌, ℕ, IsTrue, List, Some, reverse, false, true};
-ghost use Rattle.async_once_cell.specs.Prelude.{Entry, IsRun, Once, is_shared, most};
+ghost use Rattle.std.specs.Prelude.{◌≡◌, ◌≤◌, ◌⊎◌, ◌∷◌, [], ℕ, IsTrue, List, Some, reverse, false, true};
+ghost use Rattle.async_once_cell.specs.Prelude.{Entry, Grew, IsRun, Once, is_shared, most};
 ghost use Rattle.async_once_cell.specs.Record.{Pending, RanPending, End};
 ghost use Rattle.async_once_cell.specs.Called.{CanGoOn};
 ghost use Rattle.async_once_cell.specs.Fills.{times_filled, times_given};
@@ -34,8 +34,8 @@ where
     somebody_goes_on();
 }
 
-/// Polls, and says whether the poll is Pending. The newest entry that the future has seen is its end then, and
-/// another task held the right, or the future's own init was polled and is pending.
+/// Polls, and says whether the poll is Pending. If it is, its end is what the future has seen last, and another task
+/// held the right, or the future's own init was polled and is pending.
 pub fn polled_with_reason<R>(
     future: &mut InitFuture<'_, u64, Ready<u64>, R>,
     cx: &mut Context<'_>,
@@ -43,7 +43,9 @@ pub fn polled_with_reason<R>(
 where
     R: Wait + AllocGlobal,
     requires unfinished { future.old.finished ≡ false }
-    ensures { IsTrue result → is_shared future.new.cell ≡ true → (h : List Entry)
+    ensures polled { IsTrue result → is_shared future.new.cell ≡ true
+        → Grew (End future.new.task Pending ∷ []) future.old.log future.new.log }
+    ensures reason { IsTrue result → is_shared future.new.cell ≡ true → (h : List Entry)
         → reverse future.new.log ≡ End future.new.task Pending ∷ h
         → OtherHolds Once future.new.task h ⊎ ((last_call Once future.new.task h).ran ≡ Some RanPending) }
 {
