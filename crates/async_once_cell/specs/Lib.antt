@@ -2,6 +2,7 @@ pub mod Kept
 pub mod Inner
 pub mod Walks
 pub mod Refused
+pub mod Waking
 pub mod Listed
 pub mod Views
 pub mod Stays

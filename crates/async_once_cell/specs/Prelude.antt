@@ -3,7 +3,7 @@
 pub use Rattle.async_once_cell.specs.Inits.{GivesNoOther, InitFits, TellsOwn, MayGive}
 pub use Rattle.async_once_cell.specs.Inner.Sides.{HasCopied, HasWoken, sided_tells}
 pub use Rattle.async_once_cell.specs.Kept.{Grew, entries_of, most}
-pub use Rattle.async_once_cell.specs.Listed.{WakesTask, whose}
+pub use Rattle.async_once_cell.specs.Listed.{NamesTask, WakesTask, whose}
 pub use Rattle.async_once_cell.specs.Polls.{IsValue, ending_by, is_over, value_of, ending_of_refusal, ending_of_error}
 pub use Rattle.async_once_cell.specs.Polls.{IsMade, Answers, DidPoll, HasLeft, IfFailure, IfValue, IsValueAtOnce}
 pub use Rattle.async_once_cell.specs.Polls.{Polls, PollsAs, SpansIn, Waits, AnswersOwn, AnswersFit, AnswersLate}

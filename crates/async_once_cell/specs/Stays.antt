@@ -10,7 +10,7 @@ use Rattle.async_once_cell.specs.declared.attempt.PollSide.{PollSide}
 use Rattle.async_once_cell.specs.declared.attempt.LeaveSide.{LeaveSide}
 use Rattle.async_once_cell.specs.Inits.{GivesNoOther, MayGive}
 use Rattle.async_once_cell.specs.declared.waker.ListedWaker.{ListedWaker}
-use Rattle.async_once_cell.specs.Listed.{WakesTask, number_on, whose}
+use Rattle.async_once_cell.specs.Listed.{NamesTask, WakesTask, number_on, whose}
 
 module _ {T E H : Type 0} where
   -- its task, whether it has its init, a value, an error, or what shows its value, and which wakers were handed to it
@@ -53,6 +53,7 @@ module _ {T E H X : Type 0} (may_fail : H → X → Type 0) (may_give : H → T 
   pub record IsRenewed (a : PollSide T E H) (v : ListedWaker) (b : PollSide T E H) (w : ListedWaker) : Type 0 where
     pub whose : number_on w.tag.numbers ≡ number_on v.tag.numbers  -- the listing stays the same task's
     pub wakes : WakesTask w b.cx.now  -- it wakes the task that is polled
+    pub names : NamesTask w b.cx.now  -- and its tag names that task
     pub armed : b.is_armed ≡ true  -- the poll says that its task is to be woken
     pub told : told b ≡ told a  -- nothing else that is told of the side changed
     pub stays : Stays a b  -- the context keeps what it had, and the side is as right as before

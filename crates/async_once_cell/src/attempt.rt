@@ -7,7 +7,7 @@ ghost use Rattle.async_once_cell.specs.Prelude.{Keeps, Ending, Begin, DropBegin,
 ghost use Rattle.async_once_cell.specs.Prelude.{IsSet, gave_value, IsOneCall, Spans, end_of, IsValue, ending_by};
 ghost use Rattle.async_once_cell.specs.Prelude.{is_over, value_of, IsAnswered, AttemptView, gave_in, shown_in};
 ghost use Rattle.async_once_cell.specs.Prelude.{value_in};
-ghost use Rattle.async_once_cell.specs.Prelude.{HasCopied, HasWoken, sided_tells, WakesTask, whose};
+ghost use Rattle.async_once_cell.specs.Prelude.{HasCopied, HasWoken, sided_tells, NamesTask, WakesTask, whose};
 
 use crate::error::{Failure, Refused};
 use crate::inner::hand::{is_set_where_answered, stays_set};
@@ -317,6 +317,7 @@ impl<T: Drop, X: Failure, I: Init<T, X>> Side<ListedWaker> for PollSide<'_, '_, 
         ensures did { HasCopied whose (told self.old) result (told self.new) }
         ensures stays { Stays I.may_fail I.may_give (λ e. e.error) self.old self.new }
         ensures wakes { IsSomeAnd result (λ s. WakesTask s self.new.cx.now) }
+        ensures names { IsSomeAnd result (λ s. NamesTask s self.new.cx.now) }
     {
         self.is_armed = true;
         Some(ListedWaker::new(&self.mark, self.cx))
@@ -400,8 +401,8 @@ impl<T, R: Wait> Side<ListedWaker> for LeaveSide<'_, T, R> {
 
     ghost stays = { λ _ _. ⊤ };
 
-    // Nobody calls this, `put`, `renew` or `keep`, because a task that leaves has no init. It would never return. No
-    // contract forbids the call, because the kit's verdict refuses a contract that no call can meet.
+    // Nobody calls this, `put`, `copy`, `renew` or `keep`, because a task that leaves has no init. It would never
+    // return. No contract forbids the call, because the kit's verdict refuses a contract that no call can meet.
     fn run(&mut self, _right: &mut Hand) -> Polled {
         for _ in self.rt.forever() {}
         unreachable!()
@@ -415,7 +416,8 @@ impl<T, R: Wait> Side<ListedWaker> for LeaveSide<'_, T, R> {
     }
 
     fn copy(&mut self) -> Option<ListedWaker> {
-        None
+        for _ in self.rt.forever() {}
+        unreachable!()
     }
 
     fn wake(&mut self, out: Out<ListedWaker>)
