@@ -5,6 +5,8 @@ use Rattle.std.proofs.lemmas.Bool.Decides.{nat_tests}
 use prog.Atomic.{either}
 use Rattle.pagebook.specs.Pages.{Held, Moves, Notes, View}
 use Rattle.once_machine.specs.Word.{flags_of}
+use Rattle.once_machine.specs.declared.memory.NoCopy.{NoCopy}
+use Rattle.once_machine.specs.declared.memory.NoMemory.{NoMemory}
 use Rattle.once_machine.specs.declared.step.Polled.{Polled}
 use Rattle.once_machine.specs.declared.step.Polled.TheVariants.{Pending, Value, Error}
 use Rattle.once_machine.specs.Steps.{is_resting, step_of_drop}
@@ -177,11 +179,11 @@ module _ (seen : List Entry) (h : Held Sheet) (is : IsHand seen h) where
   pub ran_keeps : (a : Polled) → call_in (task_in h).step ≡ Run → Notes IsKept (seen, h) (Tells (InitRan a) (seen, h) 0)
   ran_keeps a can = of_noting (λ v. Tells (InitRan a) v 0) (ran_by seen (number_in h) (task_in h) a (task_in h).step refl can)
 
-  pub refused_keeps : CanRefuse (task_in h).step → Notes IsKept (seen, h) (Tells Refused (seen, h) 0)
-  refused_keeps can = of_noting (λ v. Tells Refused v 0) (refused_by seen (number_in h) (task_in h) (task_in h).step refl can)
+  pub refused_keeps : (why : NoCopy) → CanRefuse (task_in h).step → Notes IsKept (seen, h) (Tells (Refused why) (seen, h) 0)
+  refused_keeps why can = of_noting (λ v. Tells (Refused why) v 0) (refused_by seen (number_in h) (task_in h) (task_in h).step refl can)
 
-  pub unput_keeps : call_in (task_in h).step ≡ DoorPut → Notes IsKept (seen, h) (Tells Unput (seen, h) 0)
-  unput_keeps can = of_noting (λ v. Tells Unput v 0) (unput_by seen (number_in h) (task_in h) (task_in h).step refl can)
+  pub unput_keeps : (why : NoMemory) → call_in (task_in h).step ≡ DoorPut → Notes IsKept (seen, h) (Tells (Unput why) (seen, h) 0)
+  unput_keeps why can = of_noting (λ v. Tells (Unput why) v 0) (unput_by seen (number_in h) (task_in h) (task_in h).step refl can)
 
 -- a task is made
 pub make_keeps : (seen : List Entry) → Notes IsKept (seen, []) (Makes (seen, []))

@@ -20,6 +20,7 @@ mod ways;
 pub use book::{CellRule, Leaf, Line, Record};
 pub use desk::Desk;
 pub use hand::{Hand, Mark, TaskWaker};
+pub use once_machine::memory::{NoCopy, NoMemory};
 pub use once_machine::parts::{Counted, Parts};
 pub use once_machine::word::{MAX_WAITERS, NEW, QINIT_BIT, READY_BIT};
 pub use pollable::Pollable;

@@ -1,5 +1,6 @@
 //! Parts of one's own.
 
+use once_machine::memory::NoCopy;
 use once_machine::parts::{Counted, Parts};
 use once_machine::step::{Polled, Side};
 use once_machine::waiters::{Answer, Op, WakerId};
@@ -64,8 +65,8 @@ impl<W: WakerId + Drop> Parts<W> for Passing<W> {
         self.core.section(queue, op)
     }
 
-    fn refuse(&mut self) {
-        self.core.refuse();
+    fn refuse(&mut self, why: NoCopy) {
+        self.core.refuse(why);
     }
 
     fn run<S: Side<W, Right = ()>>(&mut self, side: &mut S) -> Polled {

@@ -1,13 +1,14 @@
 //! What a section under the lock does with the waiters.
 ghost use Rattle.std.specs.Prelude.{◌≡◌, ◌≢◌, Some};
+ghost use Rattle.std.specs.Option.{is_some, option_flatten};
 ghost use Rattle.once_machine.specs.Prelude.{flags_of, sees, is_free, Releases};
-ghost use Rattle.once_machine.specs.Listings.{ticket_for, list_with, passes_turn, next_waker};
+ghost use Rattle.once_machine.specs.Listings.{ticket_for, list_with, passes_turn, next_waker, find_listing};
 ghost use Rattle.once_machine.specs.Room.{HasSpace, listings_of};
 ghost use Rattle.once_machine.specs.declared.word.Sees.{Sees};
 ghost use Rattle.once_machine.specs.declared.waiters.Answer.{Answer};
 
 use once_machine::step::Out;
-use once_machine::waiters::{Answer, Lists, WakerId};
+use once_machine::waiters::{Answer, Lists, Renews, WakerId};
 
 /// A task asks for the right, with room made before. If nobody holds, it claims the right. If another task does, it
 /// stands at the end of the list, once, with this waker and with the ticket that it is left.
@@ -35,6 +36,13 @@ pub fn give_back(lists: &mut Lists<u64>, ready: bool) -> Out<u64>
         (listings_of lists.old) result (listings_of lists.new) }
 {
     lists.release(ready)
+}
+
+/// A task that waits renews its waker. It is told so exactly if its listing is there, and was not woken.
+pub fn renew<W: WakerId + Drop, N: Renews<W>>(lists: &mut Lists<W>, ticket: u64, by: &mut N) -> bool
+    ensures { result ≡ is_some (option_flatten (find_listing ticket (listings_of lists.old))) }
+{
+    lists.renew(ticket, by)
 }
 
 /// A waiter leaves. If it was woken and the right is free, the turn is the next one's, who is to be woken.

@@ -4,6 +4,7 @@
 
 pub mod laws;
 pub mod log;
+pub mod memory;
 pub mod parts;
 pub mod record;
 mod slots;

@@ -7,6 +7,7 @@ ghost use Rattle.once_machine.specs.Prelude.{TriedQuick, TriedFast, Added, Count
 ghost use Rattle.once_machine.specs.Prelude.{Refused, PutValue, HasWaker, flags_of};
 
 pub use crate::log::QueueLine;
+use crate::memory::NoCopy;
 use crate::step::{Polled, RunRight, Side};
 use crate::waiters::{Answer, Op};
 
@@ -95,7 +96,7 @@ pub trait Parts<W> {
         ensures refuse { wants_copy op.old result ≡ true → can self.new Refuse };
 
     /// Is told that the copy of the waker was refused, after the look that wanted it.
-    fn refuse(&mut self)
+    fn refuse(&mut self, why: NoCopy)
         requires { can self.old Refuse }
         ensures { did self.old Refused self.new };
 

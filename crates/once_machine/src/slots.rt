@@ -2,10 +2,12 @@
 ghost use Rattle.std.specs.Prelude.{◌≡◌, ◌==◌, ◌<◌, ◌≤◌, ◌+◌, ◌*◌, max, ◌⊎◌, ◌++◌, ◌∷◌, [], ℕ, true, false};
 ghost use Rattle.std.specs.Prelude.{if◌then◌else◌, Some, None, IsSome, IfSome, IfOk, IsOk, OnOk, length, vec_len};
 ghost use Rattle.std.specs.Prelude.{vec_capacity, HoldsAt, filter, position};
-ghost use Rattle.once_machine.specs.Prelude.{option_copied, option_map, is_distinct, member, is_marked, tickets};
+ghost use Rattle.once_machine.specs.Prelude.{option_copied, option_flatten, option_map, is_distinct, is_some, member};
+ghost use Rattle.once_machine.specs.Prelude.{is_marked, tickets};
 ghost use Rattle.once_machine.specs.Prelude.{find_listing, take_out, first_waker, call_first, new_ticket};
 ghost use Rattle.once_machine.specs.Prelude.{lent_listings, hole, is_kept, is_open, Renewed};
 
+use crate::memory::{self, NoMemory};
 use crate::waiters::{Listing, Renews};
 use std::alloc::{AllocError, Global};
 use std::mem;
@@ -115,8 +117,9 @@ impl<W: Drop> Slots<W> {
         Some(mem::replace(&mut self.slots[place], hole))
     }
 
-    /// Lets the waker of the listing with this ticket be renewed, if it has one.
+    /// Lets the waker of the listing with this ticket be renewed, and answers whether it has one.
     pub fn renew<N: Renews<W>>(&mut self, ticket: u64, by: &mut N) -> bool
+        ensures has { result ≡ is_some (option_flatten (find_listing ticket (listings_in self.old))) }
         ensures renewed { result ≡ true
             → Renewed N.renewed ticket (listings_in self.old) by.old (listings_in self.new) by.new }
         ensures not { result ≡ false → (listings_in self.new ≡ listings_in self.old) × (by.new ≡ by.old) }
@@ -179,7 +182,7 @@ impl<W: Drop> Slots<W> {
 
     /// Makes room for one more listing. If that is refused, the listings are as they were.
     #[inline(always)]
-    pub fn reserve(&mut self) -> Result<(), AllocError>
+    pub fn reserve(&mut self) -> Result<(), NoMemory>
         ensures slot { OnOk result (HasSlot self.new) }
         ensures mark { OnOk result (HasMark self.new) }
         ensures succeeds { HasSlot self.old → HasMark self.old → IsOk result }
@@ -190,7 +193,7 @@ impl<W: Drop> Slots<W> {
         if self.slots.len() == self.slots.capacity() {
             double(&mut self.slots)?;
         }
-        self.used.reserve(1)?;
+        memory::reserve(&mut self.used, 1)?;
         // Without this memory a listing is found by a search.
         let _ = self.places.reserve(1);
         Ok(())
@@ -300,7 +303,7 @@ impl<W: Drop> Slots<W> {
 // than a call.
 #[cold]
 #[inline(never)]
-fn double<T>(slots: &mut Vec<T>) -> Result<(), AllocError>
+fn double<T>(slots: &mut Vec<T>) -> Result<(), NoMemory>
     ensures items { slots.new.items ≡ slots.old.items }
     ensures len { vec_len slots.new ≡ vec_len slots.old }
     ensures room { OnOk result (vec_len slots.new < vec_capacity slots.new) }
@@ -308,9 +311,10 @@ fn double<T>(slots: &mut Vec<T>) -> Result<(), AllocError>
     ensures most { vec_capacity slots.new ≤ max (vec_capacity slots.old) (2 * vec_len slots.old + 4) }
 {
     if slots.is_empty() {
-        return slots.reserve_exact(4);
+        return memory::reserve_exact(slots, 4);
     }
-    slots.reserve_exact(slots.len())
+    let len = slots.len();
+    memory::reserve_exact(slots, len)
 }
 
 fn note_all<W>(places: &mut Vec<usize>, slots: &[Listing<W>]) {

@@ -9,6 +9,7 @@ ghost use Rattle.once_machine.specs.Prelude.{first_waker, call_first, kept_ticke
 ghost use Rattle.once_machine.specs.Prelude.{left_list, lent_listings, AreApart, HandsAll, DidLook, DidList, Releases};
 ghost use Rattle.once_machine.specs.Prelude.{Renewed, ticket_in, flags_of, sees, is_free, Claims, spent_by};
 
+use crate::memory::NoMemory;
 use crate::slots::Slots;
 use crate::step::Out;
 use crate::word::{Sees, Word};
@@ -270,7 +271,7 @@ impl<W: WakerId + Drop> Lists<W> {
 
     /// Makes room for one more listing. If that is refused, flag and listings are as they were.
     #[inline(always)]
-    pub fn reserve(&mut self) -> Result<(), AllocError>
+    pub fn reserve(&mut self) -> Result<(), NoMemory>
         ensures room { OnOk result (HasSpace self.new) }
         ensures succeeds { HasSpace self.old → IsOk result }
         ensures head { self.new.head ≡ self.old.head }
@@ -340,6 +341,7 @@ impl<W: WakerId + Drop> Lists<W> {
 
     /// Lets the waker of the listing with this ticket be renewed, and answers whether it has one.
     pub fn renew<N: Renews<W>>(&mut self, ticket: u64, by: &mut N) -> bool
+        ensures has { result ≡ is_some (option_flatten (find_listing ticket (listings_of self.old))) }
         ensures renewed { result ≡ true
             → Renewed N.renewed ticket (listings_of self.old) by.old (listings_of self.new) by.new }
         ensures not { result ≡ false → (listings_of self.new ≡ listings_of self.old) × (by.new ≡ by.old) }
@@ -358,7 +360,7 @@ impl<W: WakerId + Drop> Lists<W> {
 
     // Takes the own listing out, or makes room for one. Answers the ticket to list by.
     #[inline(always)]
-    fn ticket_to_list_by(&mut self, ticket: Option<u64>) -> Result<u64, AllocError>
+    fn ticket_to_list_by(&mut self, ticket: Option<u64>) -> Result<u64, NoMemory>
         ensures ticket { IfOk result (λ n. n ≡ ticket_for ticket (listings_of self.old)) }
         ensures listings { IfOk result (λ n. listings_of self.new ≡ take_out n (listings_of self.old)) }
         ensures new { IfOk result (λ n. member n (tickets (listings_of self.new)) ≡ false) }

@@ -4,6 +4,7 @@ ghost use Rattle.once_machine.specs.Room.{listings_of};
 ghost use Rattle.std.specs.Prelude.{◌≡◌, ◌<◌, ◌≤◌, ◌+◌, ◌-◌, ◌^◌, ◌++◌, ◌∷◌, true, false, []};
 ghost use Rattle.std.specs.Prelude.{Some, None, Option, OnOk, IsSome, IsTrue, ◌↔◌, not, vec_len, vec_capacity};
 
+use once_machine::memory::NoCopy;
 use once_machine::parts::{Counted, Parts, QueueLine};
 use once_machine::step::{Out, Polled, Side};
 use once_machine::waiters::{Answer, Lists, Op, WakerId};
@@ -288,7 +289,7 @@ impl<W: WakerId + Drop> Parts<W> for Core<W> {
         }
     }
 
-    fn refuse(&mut self) {}
+    fn refuse(&mut self, _why: NoCopy) {}
 
     fn run<S: Side<W, Right = ()>>(&mut self, side: &mut S) -> Polled {
         side.run(&mut ())

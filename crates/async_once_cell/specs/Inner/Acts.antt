@@ -51,8 +51,8 @@ Tells BeginDrop v n w =
     Turns v (task_dropping (task_in v.1))
     (reverse (drop_entries (number_in v.1) (step_of_drop (task_in v.1).step))) w
 Tells (InitRan a) v n w = Goes v (Ran a) w
-Tells Refused v n w = Goes v RefusedCopy w
-Tells Unput v n w = Goes v (PutQueue None) w
+Tells (Refused why) v n w = Goes v RefusedCopy w
+Tells (Unput why) v n w = Goes v (PutQueue None) w
 Tells Learn v n w = HasLearned v w
 Tells Recall v n w = HasRecalled v w
 Tells Meet v n w = AreTwo v w

@@ -11,12 +11,34 @@ ghost use Rattle.async_once_cell.specs.Inner.Prelude.{CanRest, CanCall, DidCall,
 use super::book::{CellPens, CellWord, Leaf, Line};
 use super::hand::{Hand, TaskWaker};
 use super::shared::Inner;
+use once_machine::memory::NoMemory;
 use once_machine::step::Out;
 use once_machine::waiters::{Answer, Lists, Op, Renews, WakerId};
 use once_machine::word::{QINIT_BIT, READY_BIT, Sees, Word};
 use pagebook::{Fits, Key, Keyed, Play};
 use std::marker::Model;
 use std::sync::Wait;
+
+/// Whether a waker can be listed. A clause sees whether there is room.
+#[derive(Drop)]
+pub(super) struct Room(Result<(), NoMemory>);
+
+impl Model for Room {
+    ghost use Rattle.std.specs.Prelude.{Bool};
+    ghost use Rattle.std.specs.Result.{is_ok};
+
+    ghost Value = { Bool };
+
+    ghost view = { λ r. is_ok r.0 };
+}
+
+impl Room {
+    fn is_there(&self) -> bool
+        ensures { result ≡ self.now }
+    {
+        self.0.is_ok()
+    }
+}
 
 /// What a task does under the lock.
 #[derive(Drop)]
@@ -32,7 +54,7 @@ pub(super) enum Section {
     /// Takes the queue out of the door.
     Take,
     /// Makes the section that is the call of its place, with or without room to list its waker.
-    ByTable(bool),
+    ByTable(Room),
     /// Is at rest, and comes to its listing, which has this ticket.
     Rest(u64),
 }
@@ -138,7 +160,7 @@ impl<W: TaskWaker + Drop> Desk<W> {
             unreachable!()
         };
         let lists = &mut **queue;
-        let room = true; // a look lists no waker
+        let room = Room(Ok(())); // a look lists no waker
         let found = see(word, &mut self.pens, hand, room);
         lists.look_own(ticket, found)
     }
@@ -165,9 +187,10 @@ impl<W: TaskWaker + Drop> Desk<W> {
             unreachable!()
         };
         let lists = &mut **queue;
-        let room = has_room(lists, *ticket);
+        let room = room_for(lists, *ticket);
+        let has_room = room.is_there();
         let found = see(word, &mut self.pens, hand, room);
-        if room {
+        if has_room {
             return lists.list(ticket, waker, found);
         }
         (list_without_room(lists, ticket, found), None)
@@ -230,7 +253,7 @@ impl<W: TaskWaker + Drop> Desk<W> {
             unreachable!()
         };
         let lists = &mut **queue;
-        let room = true; // a leaver lists no waker
+        let room = Room(Ok(())); // a leaver lists no waker
         let found = see(word, &mut self.pens, hand, room);
         lists.leave(ticket, found)
     }
@@ -265,13 +288,16 @@ fn word_to_add(ready: bool, head: bool) -> u64
 
 // Whether a waker can be listed: the own listing is there, or there is room for one more, which is made if need be.
 #[inline(always)]
-fn has_room<W: WakerId + Drop>(lists: &mut Lists<W>, ticket: Option<u64>) -> bool
+fn room_for<W: WakerId + Drop>(lists: &mut Lists<W>, ticket: Option<u64>) -> Room
     ensures room { result ≡ true → (is_some (kept_ticket ticket (listings_of lists.new)) ≡ true) ⊎ HasSpace lists.new }
     ensures none { result ≡ false → is_some (kept_ticket ticket (listings_of lists.old)) ≡ false }
     ensures head { lists.new.head ≡ lists.old.head }
     ensures listings { listings_of lists.new ≡ listings_of lists.old }
 {
-    lists.is_listed(ticket) || lists.reserve().is_ok()
+    if lists.is_listed(ticket) {
+        return Room(Ok(()));
+    }
+    Room(lists.reserve())
 }
 
 // Claims the right if it is free. With `look_own` in this place, a section is so large that the kit inlines none.
@@ -314,7 +340,7 @@ fn note(desk: &mut CellPens, hand: &mut Hand, section: &Section)
 }
 
 /// A moment that a load of the word marks. `room` says whether the waker of a `List` can be listed.
-fn see(word: &CellWord, desk: &mut CellPens, hand: &mut Hand, room: bool) -> u64
+fn see(word: &CellWord, desk: &mut CellPens, hand: &mut Hand, room: Room) -> u64
     requires word { IsWord word.now hand.old.seen.book 0 }
     requires book { desk.old.book ≡ hand.old.seen.book }
     requires desk { IsDesk desk.old.held }
@@ -360,7 +386,8 @@ fn mark_release(word: &CellWord, desk: &mut CellPens, hand: &mut Hand, ready: bo
         (own_of hand.new) }
 {
     desk.append(&mut hand.pens);
-    word.fetch_add::<Section, Section>(more, &Section::ByTable(true), &mut hand.seen, desk);
+    let section = Section::ByTable(Room(Ok(())));
+    word.fetch_add::<Section, Section>(more, &section, &mut hand.seen, desk);
     hand.pens = desk.split_off(2);
 }
 

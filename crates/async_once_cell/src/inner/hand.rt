@@ -11,6 +11,7 @@ ghost use Rattle.async_once_cell.specs.Inner.Prelude.{rests_with_right, Holding,
 
 use super::book::{CellPens, CellWord, Leaf, Line, Record};
 use super::pollable::Answered;
+use once_machine::memory::{NoCopy, NoMemory};
 use once_machine::parts::Counted;
 use once_machine::step::RunRight;
 use once_machine::waiters::WakerId;
@@ -41,9 +42,9 @@ pub enum Act {
     /// Polled its init.
     Ran(Answered),
     /// Was refused the copy of its waker.
-    Refused,
+    Refused(NoCopy),
     /// Was refused the memory of a queue.
-    Unput,
+    Unput(NoMemory),
     /// Learned more of the log, where it finds no entry of its own that it had not seen.
     Learn,
     /// Looked at its own page: whether it rests with the right.
@@ -154,21 +155,22 @@ impl Hand {
     }
 
     /// The copy of the waker was refused, after a look that found a holder.
-    pub fn refused(&mut self)
+    pub fn refused(&mut self, why: NoCopy)
         requires can { CanRefuse (own_of self.old).task.step }
         ensures book { self.new.seen.book ≡ self.old.seen.book }
         ensures did { Went (own_of self.old) Refused [] (own_of self.new) }
     {
-        self.seen.note::<Act, Act>(&mut self.pens, &Act::Refused);
+        self.seen
+            .note::<Act, Act>(&mut self.pens, &Act::Refused(why));
     }
 
     /// Memory for a queue was refused.
-    pub fn unput(&mut self)
+    pub fn unput(&mut self, why: NoMemory)
         requires can { call_in (own_of self.old).task.step ≡ DoorPut }
         ensures book { self.new.seen.book ≡ self.old.seen.book }
         ensures did { Went (own_of self.old) (PutQueue None) [] (own_of self.new) }
     {
-        self.seen.note::<Act, Act>(&mut self.pens, &Act::Unput);
+        self.seen.note::<Act, Act>(&mut self.pens, &Act::Unput(why));
     }
 
     /// The task learns what a record of its cell has.

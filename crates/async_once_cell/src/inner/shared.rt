@@ -13,6 +13,7 @@ use super::desk::Desk;
 use super::hand::{Act, Hand, Mark, TaskWaker};
 use super::task::Idle;
 use boxcar::tag::Tag;
+use once_machine::memory::{self, NoCopy};
 use once_machine::parts::{Counted, Parts};
 use once_machine::step::{Polled, Side};
 use once_machine::waiters::{Answer, Lists, Op};
@@ -351,13 +352,17 @@ impl<T, W: TaskWaker + Drop, R: Wait + AllocGlobal, V: Fits<T>> Parts<W>
     // The queue takes memory, so it is made with the lock free. If another task put one meanwhile, this one is let go.
     fn door_put(&mut self) -> Option<()> {
         let alloc = self.rt.alloc();
-        let Ok(queue) = Box::new(alloc, Lists::new(alloc)) else {
-            self.hand.unput();
-            return None;
-        };
-        self.inner
-            .lock_and_put::<Brand, R>(self.rt, &mut self.hand, queue);
-        Some(())
+        match memory::boxed(alloc, Lists::new(alloc)) {
+            Ok(queue) => {
+                self.inner
+                    .lock_and_put::<Brand, R>(self.rt, &mut self.hand, queue);
+                Some(())
+            }
+            Err(why) => {
+                self.hand.unput(why);
+                None
+            }
+        }
     }
 
     // If no queue was ever put, the load that finds so is the step. What was listed is let go with the lock free.
@@ -379,8 +384,8 @@ impl<T, W: TaskWaker + Drop, R: Wait + AllocGlobal, V: Fits<T>> Parts<W>
         answer
     }
 
-    fn refuse(&mut self) {
-        self.hand.refused();
+    fn refuse(&mut self, why: NoCopy) {
+        self.hand.refused(why);
     }
 
     #[inline(always)]

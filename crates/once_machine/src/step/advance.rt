@@ -4,6 +4,7 @@ ghost use Rattle.once_machine.specs.Prelude.{Wakes, out_of, in_call, Advances, A
 ghost use Rattle.once_machine.specs.Prelude.{Refuse, Refused, after_copy, left_of};
 
 use super::{Ending, Out, Place, Polled, Progress, Rest, Side, Step};
+use crate::memory;
 use crate::parts::{Counted, Parts};
 use crate::waiters::{Answer, Op};
 use crate::word::Word;
@@ -239,10 +240,10 @@ impl<W: Drop, Q: Drop> Step<W, Q> {
             × Follows S.did.close (after_copy c queue ticket) m side.new result self.new }
         ensures stays { S.stays side.old side.new }
     {
-        match side.copy() {
-            Some(waker) => self.on(Place::List(queue, ticket, waker)),
-            None => {
-                parts.refuse();
+        match memory::copied(side) {
+            Ok(waker) => self.on(Place::List(queue, ticket, waker)),
+            Err(why) => {
+                parts.refuse(why);
                 side.close();
                 self.on(Place::leaving(queue, ticket, Ending::Memory))
             }

@@ -9,6 +9,7 @@ use super::super::hand::{Hand, TaskWaker};
 use super::super::shared::{Inner, Shared};
 use super::super::task::{Idle, TaskSide};
 use super::{Reached, Spent};
+use once_machine::memory;
 use once_machine::parts::{Counted, Parts};
 use once_machine::step::{Ending, Place};
 use once_machine::waiters::{Answer, Lists};
@@ -41,17 +42,27 @@ impl<T, W: TaskWaker + Drop, R: Wait + AllocGlobal, V: Fits<T>> Shared<'_, '_, T
         ensures { Polls W.whose S.state S.stays self.old side.old result self.new.idle self.new side.new }
     {
         let alloc = self.rt.alloc();
-        let Ok(queue) = Box::new(alloc, Lists::new(alloc)) else {
-            self.hand.unput();
-            side.close();
-            self.idle = Idle::Finished;
-            return Ending::Memory;
-        };
-        let mut spent = None;
-        let (reached, _spare) = self
-            .inner
-            .lock_at_door_put::<Brand, R, S>(self.rt, &mut self.hand, queue, &mut spent, side);
-        self.go_on_from(reached, side)
+        match memory::boxed(alloc, Lists::new(alloc)) {
+            Ok(queue) => {
+                let mut spent = None;
+                let (reached, _spare) = self
+                    .inner
+                    .lock_at_door_put::<Brand, R, S>(
+                        self.rt,
+                        &mut self.hand,
+                        queue,
+                        &mut spent,
+                        side,
+                    );
+                self.go_on_from(reached, side)
+            }
+            Err(why) => {
+                self.hand.unput(why);
+                side.close();
+                self.idle = Idle::Finished;
+                Ending::Memory
+            }
+        }
     }
 
     #[inline(always)]
@@ -238,10 +249,10 @@ impl<T, W: TaskWaker + Drop, V: Fits<T>> Inner<T, W, V> {
             held => {
                 drop(held);
                 drop(taken);
-                match side.copy() {
-                    Some(waker) => self.locked_list(desk, hand, ticket, waker, spent, side),
-                    None => {
-                        hand.refused();
+                match memory::copied(side) {
+                    Ok(waker) => self.locked_list(desk, hand, ticket, waker, spent, side),
+                    Err(why) => {
+                        hand.refused(why);
                         Reached::Refused(ticket)
                     }
                 }

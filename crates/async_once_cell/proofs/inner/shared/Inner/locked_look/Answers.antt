@@ -62,22 +62,22 @@ returns-in_default-ticket-clause-leads g c =
     looked g.W.TaskWaker.whose c.args.ticket s.result.0 (Look s.new.ticket) (next_by (Waits s.new.ticket)) (ap (wants_copy (Look c.args.ticket)) c.in-Listed.is)
     c.requires.stands s.ensures.did (ap (λ a. after_look a None tt s.new.ticket) c.in-Listed.is) refl
 
-pub returns-in-None-clause-leads : goal.returns-in-None-clause-leads
-returns-in-None-clause-leads g c =
+pub returns-in-Err-clause-leads : goal.returns-in-Err-clause-leads
+returns-in-Err-clause-leads g c =
     let s = c.look-answer in
     copied g.W.TaskWaker.whose c.args.ticket s.result.0 (Look s.new.ticket) None c.in_default.not-Ready c.in_default.not-Claimed c.in_default.not-Listed
-    c.requires.stands s.ensures.did (g.met.S.TaskSide.tells.copy _ _ _ c.in-None.ensures.did) (refl, c.refused.ensures.did) refl
+    c.requires.stands s.ensures.did (g.met.S.TaskSide.tells.copy _ _ _ c.in-Err.ensures.did) (refl, c.refused.ensures.did) refl
 
 pub locked_list-requires-clause-stands : goal.locked_list-requires-clause-stands
 locked_list-requires-clause-stands g c =
     let s = c.look-answer in
-    (copied g.W.TaskWaker.whose c.args.ticket s.result.0 (Look s.new.ticket) (Some c.in-Some-copy.waker) c.in_default.not-Ready c.in_default.not-Claimed c.in_default.not-Listed
-    c.requires.stands s.ensures.did (g.met.S.TaskSide.tells.copy _ _ _ c.in-Some-copy.ensures.did) refl refl).stands
+    (copied g.W.TaskWaker.whose c.args.ticket s.result.0 (Look s.new.ticket) (Some c.in-Ok.waker) c.in_default.not-Ready c.in_default.not-Claimed c.in_default.not-Listed
+    c.requires.stands s.ensures.did (g.met.S.TaskSide.tells.copy _ _ _ c.in-Ok.ensures.did) refl refl).stands
 
-pub returns-in-Some-copy-clause-leads : goal.returns-in-Some-copy-clause-leads
-returns-in-Some-copy-clause-leads g c =
+pub returns-in-Ok-clause-leads : goal.returns-in-Ok-clause-leads
+returns-in-Ok-clause-leads g c =
     let s = c.look-answer in
     onward g.W.TaskWaker.whose
-    (copied g.W.TaskWaker.whose c.args.ticket s.result.0 (Look s.new.ticket) (Some c.in-Some-copy.waker) c.in_default.not-Ready c.in_default.not-Claimed c.in_default.not-Listed
-    c.requires.stands s.ensures.did (g.met.S.TaskSide.tells.copy _ _ _ c.in-Some-copy.ensures.did) refl refl)
+    (copied g.W.TaskWaker.whose c.args.ticket s.result.0 (Look s.new.ticket) (Some c.in-Ok.waker) c.in_default.not-Ready c.in_default.not-Claimed c.in_default.not-Listed
+    c.requires.stands s.ensures.did (g.met.S.TaskSide.tells.copy _ _ _ c.in-Ok.ensures.did) refl refl)
     c.locked_list.ensures.leads

@@ -8,8 +8,8 @@ use Rattle.async_once_cell.proofs.Promise.{fits_on}
 use Rattle.async_once_cell.proofs.Walk.Ways.{led}
 use Rattle.async_once_cell.proofs.inner.shared.Shared.at_door_put.Goals as goal
 
-pub returns-in_default : goal.returns-in_default
-returns-in_default g c =
+pub returns-in-Err : goal.returns-in-Err
+returns-in-Err g c =
     record {
       cell = refl;
       leads = led g.W.TaskWaker.whose AtDoorPut (PutQueue None) (closing_end EndMemory) refl refl (None, refl) c.requires.stands (0, c.unput.ensures.did)
@@ -17,8 +17,8 @@ returns-in_default g c =
       stays = c.close.ensures.stays;
     }
 
-pub returns : goal.returns
-returns g c =
+pub returns-in-Ok : goal.returns-in-Ok
+returns-in-Ok g c =
     record {
       cell = c.go_on_from.ensures.cell;
       leads = c.go_on_from.ensures.leads _ _ c.lock_at_door_put-reached.ensures.leads;
