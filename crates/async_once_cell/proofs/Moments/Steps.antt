@@ -9,15 +9,15 @@ use Rattle.once_machine.specs.declared.step.Polled.{Polled}
 use Rattle.once_machine.specs.declared.step.Polled.TheVariants.{Error}
 use Rattle.once_machine.specs.Table.{Next, Told, Was, Refused, Ran, PutValue}
 use Rattle.once_machine.specs.Table.{after, after_copy, after_list, after_look}
-use Rattle.once_machine.specs.Table.{after_run, call_at, closing_at, next_at}
+use Rattle.once_machine.specs.Table.{after_run, closing_at, next_at}
 use Rattle.once_machine.specs.Steps.{leave_place, release_place, step_of_drop, step_of_poll}
 use Rattle.once_machine.specs.declared.step.Ending.TheVariants.{Memory as EndMemory, Error as EndError, Value as EndValue}
 use Rattle.once_machine.specs.declared.step.Ending.{Ending}
 use Rattle.once_machine.specs.declared.step.Step.{Step}
 use Rattle.once_machine.specs.declared.step.Place.{Place}
-use Rattle.once_machine.specs.declared.step.Place.TheVariants.{Start as AtStart, Look as AtLook, List as AtList, Run as AtRun}
+use Rattle.once_machine.specs.declared.step.Place.TheVariants.{Look as AtLook, List as AtList, Run as AtRun}
 use Rattle.once_machine.specs.declared.step.Place.TheVariants.{Put as AtPut}
-use Rattle.async_once_cell.specs.Inner.Steps.{StandsForStep, answer_as, call_as, next_as, place_as, step_as, told_as}
+use Rattle.async_once_cell.specs.Inner.Steps.{StandsForStep, answer_as, next_as, place_as, step_as, told_as}
 
 module _ {W V Q P : Type 0} (f : W → V) (g : Q → P) where
   -- where the right is given back
@@ -35,11 +35,6 @@ module _ {W V Q P : Type 0} (f : W → V) (g : Q → P) where
   -- a drop begins
   pub drop_as : (s : Step W Q) → step_as f g (step_of_drop s) ≡ step_of_drop (step_as f g s)
   drop_as s = grind (arith, common_steps)
-
-  -- the call of a place
-  pub call_at_as : (p : Place W Q) → call_as f g (call_at p) ≡ call_at (place_as f g p)
-  call_at_as AtStart = refl
-  call_at_as _ = refl
 
   -- the rows of the table after which one leaves, or gives the right back
   pub copy_as : (w : Option W) (q : Q) (k : Option ℕ) → next_as f g (after_copy w q k) ≡ after_copy (option_map f w) (g q) k

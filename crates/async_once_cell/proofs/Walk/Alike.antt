@@ -1,4 +1,4 @@
--- If the code stands at a place, the page does too. So the page may make the code's call, and goes on as the code does.
+-- If the code stands at a place, the page does too. So the page goes on as the code does.
 use Rattle.std.proofs.Common.{◌≡◌, ℕ, Bool, true, false, List, [], ◌∷◌, reverse, Option, Some, None, refl, sym, ap, ◌∙◌, subst, arith}
 use Rattle.std.proofs.lemmas.Grind.{common_steps}
 use Rattle.std.proofs.lemmas.List.{append-nil}
@@ -9,24 +9,23 @@ use Rattle.once_machine.specs.declared.waiters.Answer.TheVariants.{Ready, Gone}
 use Rattle.once_machine.specs.Ops.{ticket_in}
 use Rattle.once_machine.specs.declared.waiters.Op.{Op}
 use Rattle.once_machine.specs.declared.waiters.Op.TheVariants.{Look, List as ListOwn, Release, Leave}
-use Rattle.once_machine.specs.Table.{Call, Section, Told, Got, PutQueue, Ran as PolledInit, TriedFast, TriedQuick, Was, after, call_at}
+use Rattle.once_machine.specs.Table.{Told, Got, PutQueue, Ran as PolledInit, TriedFast, TriedQuick, Was, after}
 use Rattle.once_machine.specs.Record.{Entry, Ran}
 use Rattle.once_machine.specs.declared.record.Ran.{Ran as InitAnswer}
 use Rattle.once_machine.specs.declared.record.Ran.TheVariants.{Pending as RanPending}
 use Rattle.once_machine.specs.Machine.{claim_entries, is_claim, pass_entries, records, release_entry, unless_gone}
 use Rattle.once_machine.specs.declared.step.Place.{Place}
-use Rattle.once_machine.specs.declared.step.Place.TheVariants.{Start as AtStart}
 use Rattle.once_machine.specs.declared.step.Step.{Step}
 use Rattle.once_machine.specs.declared.step.Step.TheVariants.{Resting, UnderWay, Finished}
 use Rattle.async_once_cell.specs.Inner.Named.{handed_in}
 use Rattle.async_once_cell.specs.Inner.Own.{Own}
 use Rattle.async_once_cell.specs.Inner.Page.{Went, call_in, next_of, queue_of}
-use Rattle.async_once_cell.specs.Inner.Parts.{CanCall, DidCall}
+use Rattle.async_once_cell.specs.Inner.Parts.{DidCall}
 use Rattle.async_once_cell.specs.Inner.Places.{numbered}
 use Rattle.async_once_cell.specs.Record.{gave_since}
-use Rattle.async_once_cell.specs.Inner.Steps.{answer_as, call_as, next_as, op_as, place_as, step_as, told_as}
-use Rattle.async_once_cell.specs.Walks.{AreMid, StandsOn, handed, the_queue}
-use Rattle.async_once_cell.proofs.Moments.Steps.{after_as, call_at_as}
+use Rattle.async_once_cell.specs.Inner.Steps.{answer_as, next_as, op_as, place_as, step_as, told_as}
+use Rattle.async_once_cell.specs.Walks.{AreMid, handed, the_queue}
+use Rattle.async_once_cell.proofs.Moments.Steps.{after_as}
 
 -- the page goes on by the table, from a place for which this one stands
 pub page_goes : (s : Step ℕ ℕ) (at : Place ℕ ⊤) (v : ℕ) (e : Told ℕ ℕ) → step_as (λ w. w) the_queue s ≡ UnderWay at
@@ -37,26 +36,12 @@ page_goes (UnderWay p) at v e is =
 page_goes (Resting r) at v e is = let no : ⊥ = cc in absurd no
 page_goes Finished at v e is = let no : ⊥ = cc in absurd no
 
--- and makes that place's call
-page_calls : (s : Step ℕ ℕ) (at : Place ℕ ⊤) → step_as (λ w. w) the_queue s ≡ UnderWay at → call_as (λ w. w) the_queue (call_in s) ≡ call_at at
-page_calls (UnderWay p) at is = let same : place_as (λ w. w) the_queue p ≡ at = cc in call_at_as (λ w. w) the_queue p ∙ ap call_at same
-page_calls (Resting r) at is = let no : ⊥ = cc in absurd no
-page_calls Finished at is = let no : ⊥ = cc in absurd no
-
--- a number for the queue, and back
-call_back : (c : Call ℕ ℕ) → c ≡ call_as (λ w. w) (λ q. queue_of c) (call_as (λ w. w) the_queue c)
-call_back c = grind (arith, common_steps)
-
 module _ {W : Type 0} (whose : W → ℕ) where
   -- the code's names, and then the page's
   op_twice : (op : Op W) → op_as (λ (w : ℕ). w) (op_as whose op) ≡ op_as whose op
   op_twice (ListOwn k (Some w)) = refl
   op_twice (ListOwn k None) = refl
   op_twice _ = refl
-
-  call_twice : (q : ℕ) (c : Call W ⊤) → call_as (λ (w : ℕ). w) (λ (u : ⊤). q) (call_as whose (λ u. u) c) ≡ call_as whose (λ u. q) c
-  call_twice q (Section u op) = ap (Section q) (op_twice op)
-  call_twice q _ = refl
 
   answer_twice : (a : Answer W) → ◌≡◌ {A = Answer ℕ} (answer_as {W = ℕ} (answer_as a)) (answer_as a)
   answer_twice Ready = refl
@@ -70,19 +55,6 @@ module _ {W : Type 0} (whose : W → ℕ) where
   told_twice n (PutQueue q) = ap PutQueue (queue_twice n q)
   told_twice n (Was q op a o) = λ i. Was tt (op_twice op i) (answer_twice a i) (Look (ticket_in o))
   told_twice n _ = refl
-
-  -- the call of a place is no refusal
-  can_at : (s : Step ℕ ℕ) (at : Place W ⊤) → call_in s ≡ call_as whose (λ (u : ⊤). queue_of (call_in s)) (call_at at) → CanCall whose s (call_at at)
-  can_at s AtStart is = is
-  can_at s _ is = is
-
-  -- so a task that stands at a place may make its call
-  pub can_call : (v : Own) (at : Place W ⊤) → StandsOn whose v (UnderWay at) → CanCall whose v.task.step (call_at at)
-  can_call v at is =
-      let c : Call ℕ ℕ = call_in v.task.step in
-      let same : call_as (λ w. w) the_queue c ≡ call_as whose (λ (u : ⊤). u) (call_at at) =
-      page_calls v.task.step (place_as whose (λ u. u) at) (sym is) ∙ sym (call_at_as whose (λ (u : ⊤). u) at) in
-      can_at v.task.step at (call_back c ∙ ap (call_as (λ w. w) (λ (u : ⊤). queue_of c)) same ∙ call_twice (queue_of c) (call_at at))
 
   -- which tasks a call hands out: a look and a listing none
   abbrev pub handed_by : Told W ⊤ → List ℕ
