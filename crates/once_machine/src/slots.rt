@@ -189,13 +189,28 @@ impl<W: Drop> Slots<W> {
         ensures listings { listings_in self.new ≡ listings_in self.old }
         ensures memory { capacity_in self.new ≤ max (capacity_in self.old) (4 * (length (listings_in self.old) + 1)) }
     {
-        self.close_many_holes();
         if self.slots.len() == self.slots.capacity() {
-            double(&mut self.slots)?;
+            self.make_space()?;
         }
         memory::reserve(&mut self.used, 1)?;
         // Without this memory a listing is found by a search.
         let _ = self.places.reserve(1);
+        Ok(())
+    }
+
+    // Closes holes if there are many, and else asks for memory. It stands apart, so that a section has no more of it
+    // than a call.
+    #[inline(never)]
+    fn make_space(&mut self) -> Result<(), NoMemory>
+        ensures slot { OnOk result (HasSlot self.new) }
+        ensures used { self.new.used ≡ self.old.used }
+        ensures listings { listings_in self.new ≡ listings_in self.old }
+        ensures memory { capacity_in self.new ≤ max (capacity_in self.old) (4 * (length (listings_in self.old) + 1)) }
+    {
+        self.close_many_holes();
+        if self.slots.len() == self.slots.capacity() {
+            double(&mut self.slots)?;
+        }
         Ok(())
     }
 

@@ -409,8 +409,21 @@ impl<T, W: TaskWaker, V: Fits<T>> Inner<T, W, V> {
             .load::<Act, Act>(&Act::ByTable, &mut hand.seen, &mut hand.pens)
     }
 
-    /// Tries again while others change the word between the load and the exchange.
     pub(super) fn counted<R: Wait>(&self, rt: &R, hand: &mut Hand) -> Counted
+        requires book { hand.old.seen.book ≡ self.now.front.book }
+        requires can { call_in (own_of hand.old).task.step ≡ CountIn }
+        ensures book { hand.new.seen.book ≡ hand.old.seen.book }
+        ensures did { Went (own_of hand.old) (count_told result) [] (own_of hand.new) }
+    {
+        if let Some(counted) = hand.try_count_in(&self.word) {
+            return counted;
+        }
+        self.counted_again(rt, hand)
+    }
+
+    // Tries again while others change the word between the load and the exchange.
+    #[inline(never)]
+    fn counted_again<R: Wait>(&self, rt: &R, hand: &mut Hand) -> Counted
         requires book { hand.old.seen.book ≡ self.now.front.book }
         requires can { call_in (own_of hand.old).task.step ≡ CountIn }
         ensures book { hand.new.seen.book ≡ hand.old.seen.book }

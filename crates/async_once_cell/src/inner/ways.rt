@@ -93,15 +93,29 @@ impl<T, W: TaskWaker + Drop, R: Wait + AllocGlobal, V: Fits<T>> Shared<'_, '_, T
         self.at_run(None, side)
     }
 
+    #[inline(always)]
     pub(super) fn later<S: TaskSide<W, Value = T>>(&mut self, idle: Idle, side: &mut S) -> Ending
         requires live { is_over idle ≡ false }
         requires stands { IsBegun W.whose S.state idle self.old side.old }
         requires fits { GivesFit S.hands S.has_slot V.fits side.old (cell_of self.old) }
         ensures { Polls W.whose S.state S.stays self.old side.old result self.new.idle self.new side.new }
     {
+        let ticket = match idle {
+            Idle::Listed(ticket) => Some(ticket),
+            Idle::Unlisted => None,
+            _ => return self.at_right(idle, side),
+        };
+        self.at_wait_load(ticket, side)
+    }
+
+    // The later poll of a holder is a call of its own, so that that of a waiter is inlined.
+    fn at_right<S: TaskSide<W, Value = T>>(&mut self, idle: Idle, side: &mut S) -> Ending
+        requires live { is_over idle ≡ false }
+        requires stands { IsBegun W.whose S.state idle self.old side.old }
+        requires fits { GivesFit S.hands S.has_slot V.fits side.old (cell_of self.old) }
+        ensures { Polls W.whose S.state S.stays self.old side.old result self.new.idle self.new side.new }
+    {
         match idle {
-            Idle::Listed(ticket) => self.at_wait_load(Some(ticket), side),
-            Idle::Unlisted => self.at_wait_load(None, side),
             Idle::Quick => self.at_run(None, side),
             Idle::Queued => self.at_run(Some(()), side),
             _ => self.by_steps(idle, side),

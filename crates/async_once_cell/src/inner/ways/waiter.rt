@@ -17,6 +17,7 @@ use once_machine::word::Word;
 use pagebook::{Fits, Key};
 use std::alloc::AllocGlobal;
 use std::marker::Brand;
+use std::mem;
 use std::sync::Wait;
 
 impl<T, W: TaskWaker + Drop, R: Wait + AllocGlobal, V: Fits<T>> Shared<'_, '_, T, W, R, V> {
@@ -240,15 +241,15 @@ impl<T, W: TaskWaker + Drop, V: Fits<T>> Inner<T, W, V> {
             }
             // Only a claim takes a waker out. So there is none to put aside here, and below.
             Answer::Listed => {
-                drop(taken);
+                let_go(taken);
                 if let Some(own) = ticket {
                     let _is_renewed = desk.renew(hand, own, side);
                 }
                 Reached::Waits(ticket)
             }
             held => {
-                drop(held);
-                drop(taken);
+                mem::forget(held);
+                let_go(taken);
                 match memory::copied(side) {
                     Ok(waker) => self.locked_list(desk, hand, ticket, waker, spent, side),
                     Err(why) => {
@@ -294,9 +295,19 @@ impl<T, W: TaskWaker + Drop, V: Fits<T>> Inner<T, W, V> {
                 Reached::Refused(ticket)
             }
             waits => {
-                drop(waits);
+                mem::forget(waits);
                 Reached::Waits(ticket)
             }
         }
+    }
+}
+
+// As `drop`. Where there is no waker, nothing is handed over in memory.
+#[inline(always)]
+fn let_go<W: Drop>(taken: Option<W>) {
+    if taken.is_some() {
+        drop(taken);
+    } else {
+        mem::forget(taken);
     }
 }

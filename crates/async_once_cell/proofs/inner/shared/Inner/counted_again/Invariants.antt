@@ -1,7 +1,7 @@
 use Rattle.std.proofs.Common.{◌≡◌}
 use Rattle.async_once_cell.specs.Inner.Hands.{own_of}
 use Rattle.async_once_cell.specs.Inner.Own.{Stayed}
-use Rattle.async_once_cell.proofs.inner.shared.Inner.counted.Given as goal
+use Rattle.async_once_cell.proofs.inner.shared.Inner.counted_again.Given as goal
 
 abbrev pub invariant-loop : goal.invariant-loop
 invariant-loop g l =
