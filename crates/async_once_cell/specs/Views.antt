@@ -76,14 +76,14 @@ value_in (Some w) = Some w.value
 -- what shows the value that a task answered
 abbrev pub shown_in : {T : Type 0} → Shown T → Option (Written T)
 shown_in Nothing = None
-shown_in (ShownOwn w _) = Some w
-shown_in (ShownOther w _) = Some w
+shown_in (ShownOwn _ w) = Some w
+shown_in (ShownOther _ w) = Some w
 
 -- whether it is the value that its own init gave
 abbrev pub gave_in : {T : Type 0} → Shown T → Bool
 gave_in Nothing = false
-gave_in (ShownOwn w _) = true
-gave_in (ShownOther w _) = false
+gave_in (ShownOwn _ w) = true
+gave_in (ShownOther _ w) = false
 
 -- if this shows a value, it is that of this cell. Its task is finished, and saw that the cell is set
 abbrev pub IsAnswered : {T : Type 0} → Placed → Bool → List Entry → Option (Written T) → Type 0

@@ -23,15 +23,15 @@ use std::marker::{Model, PhantomData};
 use std::snapshot::Snapshot;
 use std::sync::Wait;
 
-// What shows the value that a task answered, if it answered one. It is as wide as its neighbours: the bytes that a
-// narrow field leaves free would be copied one by one when a future is made.
+// What shows the value that a task answered, if it answered one. Each variant begins with numbers, of which there are
+// none, so that it is as wide as its neighbours: the bytes that a narrow field leaves free are copied too.
 #[derive(Drop)]
 pub(crate) enum Shown<T> {
     Nothing,
     // The value that its own init gave.
-    Own(Written<T>, [u64; 0]),
+    Own([u64; 0], Written<T>),
     // A value that another task put.
-    Other(Written<T>, [u64; 0]),
+    Other([u64; 0], Written<T>),
 }
 
 /// One attempt to get the value of a cell: a task with its init. A clause sees both.
@@ -85,7 +85,7 @@ impl<'a, T, I: Drop, R: Wait + AllocGlobal, V: Fits<T>> Attempt<'a, T, I, R, V> 
     {
         match &self.shown {
             Shown::Nothing => None,
-            Shown::Own(written, _) | Shown::Other(written, _) => Some(written.again()),
+            Shown::Own(_, written) | Shown::Other(_, written) => Some(written.again()),
         }
     }
 
@@ -233,9 +233,9 @@ impl<'a, T: Drop, I: Drop, R: Wait + AllocGlobal, V: Fits<T>> Attempt<'a, T, I, 
                 self.shown = match put {
                     Some(put) => {
                         put.agrees(&written);
-                        Shown::Own(written, [])
+                        Shown::Own([], written)
                     }
-                    None => Shown::Other(written, []),
+                    None => Shown::Other([], written),
                 };
                 Poll::Ready(Ok(value))
             }

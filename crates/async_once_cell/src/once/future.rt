@@ -302,7 +302,7 @@ impl<'a, T, X, I: Yields<T, X>, R: Wait + AllocGlobal, V: Fits<T>> Initializing<
         match (&mut self.state, &token.seen) {
             (FutureState::Shared(attempt), Seen::Shared(_, Some(written))) => {
                 attempt.leave();
-                attempt.shown = Shown::Other(written.again(), []);
+                attempt.shown = Shown::Other([], written.again());
             }
             (FutureState::Owned(rt, _), Seen::Owned(true)) => {
                 self.state = FutureState::Answered(*rt);
