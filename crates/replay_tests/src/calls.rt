@@ -70,22 +70,9 @@ impl<R: Wait + AllocGlobal> Player<'_, R> {
         requires reached { IsReached teller.old.world }
         ensures reached { OnOk result (IsReached teller.new.world) }
     {
-        match met_in(&rows) {
-            Some(task) => self.play_met(teller, stage, (rows, task)),
-            None => self.play_rows(teller, stage, rows),
+        if let Some(task) = met_in(&rows) {
+            return self.play_met(teller, stage, (rows, task));
         }
-    }
-
-    // Compares calls of futures.
-    fn play_rows(
-        &self,
-        teller: &mut Teller,
-        stage: Stage<'_, R>,
-        rows: Vec<Row>,
-    ) -> Result<(), Fail>
-        requires reached { IsReached teller.old.world }
-        ensures reached { OnOk result (IsReached teller.new.world) }
-    {
         let mut stage = stage;
         for row in rows {
             let wanted = teller.tell_one(&row.whole)?;
