@@ -36,7 +36,7 @@ pub(crate) enum Shown<T> {
 
 /// One attempt to get the value of a cell: a task with its init. A clause sees both.
 #[derive(Drop)]
-pub(crate) struct Attempt<'a, T, I: Drop, R: Wait + AllocGlobal, V: Fits<T> = Anything> {
+pub(crate) struct Attempt<'a, T, I: Drop, R, V: Fits<T> = Anything> {
     pub(crate) task: Task<'a, 'a, T, ListedWaker, R, V>,
     init: Option<I>,
     pub(crate) shown: Shown<T>,
@@ -44,7 +44,7 @@ pub(crate) struct Attempt<'a, T, I: Drop, R: Wait + AllocGlobal, V: Fits<T> = An
     ghost has_init: { task.finished ≡ false → is_some init ≡ true },
 }
 
-impl<'a, T, I: Drop, R: Wait + AllocGlobal, V: Fits<T>> Model for Attempt<'a, T, I, R, V> {
+impl<'a, T, I: Drop, R, V: Fits<T>> Model for Attempt<'a, T, I, R, V> {
     ghost Value = { AttemptView T I };
 
     ghost view = { λ f. record {
@@ -61,7 +61,7 @@ impl<'a, T, I: Drop, R: Wait + AllocGlobal, V: Fits<T>> Model for Attempt<'a, T,
     ghost invariant = { λ f. IsAnswered f.task.cell f.task.finished f.task.log (shown_in f.shown) };
 }
 
-impl<'a, T, I: Drop, R: Wait + AllocGlobal, V: Fits<T>> Attempt<'a, T, I, R, V> {
+impl<'a, T, I: Drop, R, V: Fits<T>> Attempt<'a, T, I, R, V> {
     #[inline(always)]
     pub(crate) fn new(inner: &'a Inner<T, ListedWaker, V>, rt: &'a R, init: I) -> Self
         ensures cell { result.cell ≡ inner.now.slot }
@@ -96,6 +96,54 @@ impl<'a, T, I: Drop, R: Wait + AllocGlobal, V: Fits<T>> Attempt<'a, T, I, R, V> 
         matches!(self.shown, Shown::Own(_, _))
     }
 
+    // The answer of a poll that ended in this way, and left no init.
+    fn answer<X: Failure>(
+        &mut self,
+        ending: Ending,
+        error: Option<Failed<X>>,
+        put: Option<Written<T>>,
+    ) -> Poll<Result<&'a T, X>>
+    where
+        I: Init<T, X>,
+        requires value { ending ≡ Ending.Value → EndsSet self.old.number self.old.log }
+        requires finished { ending ≡ Ending.Value → self.old.finished ≡ true }
+        requires nothing { (self.old.value ≡ None) × (self.old.init ≡ None) }
+        requires not_pending { ending ≡ Ending.Pending → ⊥ }
+        requires error { ending ≡ Ending.Error → IsSome error }
+        requires not_dropped { ending ≡ Ending.Dropped → ⊥ }
+        requires put { IfSome put (λ w. w.of ≡ self.old.cell.id) }
+        ensures ending { ending_by X.ending result ≡ ending }
+        ensures is_value { ending ≡ Ending.Value → IsValue result }
+        ensures cell { self.new.cell ≡ self.old.cell }
+        ensures number { self.new.number ≡ self.old.number }
+        ensures log { self.new.log ≡ self.old.log }
+        ensures finished { self.new.finished ≡ self.old.finished }
+        ensures init { self.new.init ≡ None }
+        ensures set { ending ≡ Ending.Value → IsSet self.new.log }
+        ensures value { self.new.value ≡ value_of result }
+        ensures promise { IfSome (value_of result) (V.fits self.old.cell.about) }
+        ensures own { IfReady result (λ a. IfErr a
+            (λ x. X.ending x ≡ Ending.Error → IsSomeAnd error (λ e. e.error ≡ x))) }
+        ensures gave { IsValue result → self.new.gave ≡ is_some put }
+        ensures put { IfSome put (λ w. IfSome (value_of result) (λ v. v ≡ w.value)) }
+    {
+        if ending != Ending::Value {
+            return Poll::Ready(Err(failed(ending, error)));
+        }
+        is_set_where_answered(&self.task.record());
+        let (value, written) = self.task.value();
+        self.shown = match put {
+            Some(put) => {
+                put.agrees(&written);
+                Shown::Own([], written)
+            }
+            None => Shown::Other([], written),
+        };
+        Poll::Ready(Ok(value))
+    }
+}
+
+impl<'a, T, I: Drop, R: Wait + AllocGlobal, V: Fits<T>> Attempt<'a, T, I, R, V> {
     /// As [`leave`](Self::leave), by value: so the drop of a future that is finished moves nothing.
     pub(crate) fn discard(mut self)
         requires live { self.finished ≡ false }
@@ -194,59 +242,28 @@ impl<'a, T: Drop, I: Drop, R: Wait + AllocGlobal, V: Fits<T>> Attempt<'a, T, I, 
         }
         self.answer(ending, error, written)
     }
+}
 
-    // The answer of a poll that ended in this way, and left no init.
-    fn answer<X: Failure>(
-        &mut self,
-        ending: Ending,
-        error: Option<Failed<X>>,
-        put: Option<Written<T>>,
-    ) -> Poll<Result<&'a T, X>>
-    where
-        I: Init<T, X>,
-        requires value { ending ≡ Ending.Value → EndsSet self.old.number self.old.log }
-        requires finished { ending ≡ Ending.Value → self.old.finished ≡ true }
-        requires nothing { (self.old.value ≡ None) × (self.old.init ≡ None) }
-        requires not_pending { ending ≡ Ending.Pending → ⊥ }
-        requires error { ending ≡ Ending.Error → IsSome error }
-        requires not_dropped { ending ≡ Ending.Dropped → ⊥ }
-        requires put { IfSome put (λ w. w.of ≡ self.old.cell.id) }
-        ensures ending { ending_by X.ending result ≡ ending }
-        ensures is_value { ending ≡ Ending.Value → IsValue result }
-        ensures cell { self.new.cell ≡ self.old.cell }
-        ensures number { self.new.number ≡ self.old.number }
-        ensures log { self.new.log ≡ self.old.log }
-        ensures finished { self.new.finished ≡ self.old.finished }
-        ensures init { self.new.init ≡ None }
-        ensures set { ending ≡ Ending.Value → IsSet self.new.log }
-        ensures value { self.new.value ≡ value_of result }
-        ensures promise { IfSome (value_of result) (V.fits self.old.cell.about) }
-        ensures own { IfReady result (λ a. IfErr a
-            (λ x. X.ending x ≡ Ending.Error → IsSomeAnd error (λ e. e.error ≡ x))) }
-        ensures gave { IsValue result → self.new.gave ≡ is_some put }
-        ensures put { IfSome put (λ w. IfSome (value_of result) (λ v. v ≡ w.value)) }
-    {
-        match ending {
-            Ending::Value => {
-                is_set_where_answered(&self.task.record());
-                let (value, written) = self.task.value();
-                self.shown = match put {
-                    Some(put) => {
-                        put.agrees(&written);
-                        Shown::Own([], written)
-                    }
-                    None => Shown::Other([], written),
-                };
-                Poll::Ready(Ok(value))
-            }
-            Ending::Error => {
-                let Failed { error } = error.unwrap();
-                Poll::Ready(Err(error))
-            }
-            Ending::Memory => Poll::Ready(Err(X::refused(Refused::Memory))),
-            Ending::Full => Poll::Ready(Err(X::refused(Refused::Full))),
-            Ending::Pending | Ending::Dropped => unreachable!(),
+// What a poll tells that ended in this way, without a value. It is a call of its own, so that a poll which answers a
+// value tests for that alone.
+#[cold]
+#[inline(never)]
+fn failed<X: Failure>(ending: Ending, error: Option<Failed<X>>) -> X
+    requires no_value { ending ≡ Ending.Value → ⊥ }
+    requires not_pending { ending ≡ Ending.Pending → ⊥ }
+    requires not_dropped { ending ≡ Ending.Dropped → ⊥ }
+    requires error { ending ≡ Ending.Error → IsSome error }
+    ensures ending { X.ending result ≡ ending }
+    ensures own { X.ending result ≡ Ending.Error → IsSomeAnd error (λ e. e.error ≡ result) }
+{
+    match ending {
+        Ending::Error => {
+            let Failed { error } = error.unwrap();
+            error
         }
+        Ending::Memory => X::refused(Refused::Memory),
+        Ending::Full => X::refused(Refused::Full),
+        Ending::Value | Ending::Pending | Ending::Dropped => unreachable!(),
     }
 }
 

@@ -247,6 +247,7 @@ impl<T, W: TaskWaker + Drop, V: Fits<T>> Inner<T, W, V> {
                 }
                 Reached::Waits(ticket)
             }
+            // `Held`, which has no waker: to forget it costs nothing.
             held => {
                 mem::forget(held);
                 let_go(taken);
@@ -294,6 +295,7 @@ impl<T, W: TaskWaker + Drop, V: Fits<T>> Inner<T, W, V> {
                 Spent::keep(spent, taken, copy);
                 Reached::Refused(ticket)
             }
+            // `Listed`, which has none either.
             waits => {
                 mem::forget(waits);
                 Reached::Waits(ticket)
@@ -302,7 +304,7 @@ impl<T, W: TaskWaker + Drop, V: Fits<T>> Inner<T, W, V> {
     }
 }
 
-// As `drop`. Where there is no waker, nothing is handed over in memory.
+// As `drop`, but if there is no waker, nothing is handed over in memory.
 #[inline(always)]
 fn let_go<W: Drop>(taken: Option<W>) {
     if taken.is_some() {
