@@ -23,8 +23,8 @@ use std::marker::{Model, PhantomData};
 use std::snapshot::Snapshot;
 use std::sync::Wait;
 
-// What shows the value that a task answered, if it answered one. Each variant begins with numbers, of which there are
-// none, so that it is as wide as its neighbours: the bytes that a narrow field leaves free are copied too.
+// What shows the value that a task answered, if it answered one. The array has no bytes, and as the first field makes
+// this as wide as its neighbours: the bytes that a narrow field leaves free are copied too.
 #[derive(Drop)]
 pub(crate) enum Shown<T> {
     Nothing,

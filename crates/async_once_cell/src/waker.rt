@@ -11,13 +11,13 @@ use once_machine::waiters::WakerId;
 
 /// The waker of a task, with its number. Two are never compared, since a task is listed once. It wakes its task when it
 /// is let go, so a task whose waker is handed out is woken when the answer is dropped, and no listed waker is lost. By
-/// its type it wakes the task that was polled when it was made or renewed, wherever it lies.
+/// its type it wakes no task of the executor but the one that was polled when it was made or renewed.
 #[derive(Drop)]
 pub struct ListedWaker {
     // None if no waker could be made. Then the task asked for another poll.
     waker: Option<Waker>,
     tag: Tag,
-    // The task that was polled when the waker was made, so a clause can say whom it wakes wherever it lies.
+    // The executor's task that was polled by the last `register`, so a clause can say whom the waker wakes.
     polled: Tag,
     ghost wakes: { ForSome waker (WakesNamed polled.numbers) },
 }

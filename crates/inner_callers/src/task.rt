@@ -14,7 +14,7 @@ pub enum Call {
     Leave,
 }
 
-/// A poll or a drop, as the caller says, of which only a drop ends as one. The newest entry of the record says that it
+/// A poll or a drop, as the caller says. Only a drop ends as `Dropped`. The newest entry of the record says that it
 /// ended as is answered. Only a poll asks that the init is there.
 pub fn called<T, W, R, V, S>(
     task: &mut Task<'_, '_, T, W, R, V>,

@@ -38,7 +38,7 @@ pub fn give_back(lists: &mut Lists<u64>, ready: bool) -> Out<u64>
     lists.release(ready)
 }
 
-/// A task that waits renews its waker. It is told so exactly if its listing is there, and was not woken.
+/// A task that waits renews its waker. It is told so exactly if its listing is there, with a waker.
 pub fn renew<W: WakerId + Drop, N: Renews<W>>(lists: &mut Lists<W>, ticket: u64, by: &mut N) -> bool
     ensures { result ≡ is_some (option_flatten (find_listing ticket (listings_of lists.old))) }
 {

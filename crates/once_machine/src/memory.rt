@@ -1,9 +1,9 @@
 //! Memory that was refused, by types. [`NoMemory`] and [`NoCopy`] have private fields, so no code outside of this file
-//! can make one. Code that ends a call for want of memory has to hand one over, and none can be used twice.
+//! can make one. The cells hand one over to write into their record that memory was refused. Parts as plain data, which
+//! are told when to refuse, need none.
 //!
-//! So that nobody says without cause that memory was refused is read in the four functions below: each makes one only
-//! if its `Box::new`, `reserve`, `reserve_exact` or `copy` was refused. What types allow is to get one on purpose, by a
-//! request for more memory than there is, or by a side that refuses each copy.
+//! Each of the four functions below makes one only if its `Box::new`, `reserve`, `reserve_exact` or `copy` was refused.
+//! Types allow to keep one for another call, to ask for too much, and a side that refuses each copy.
 ghost use Rattle.std.specs.Prelude.{◌≡◌, ◌+◌, ◌≤◌, max, IfOk, IsOk, OnOk, OnErr, vec_len, vec_capacity};
 ghost use Rattle.std.specs.Result.{result_ok};
 

@@ -198,8 +198,8 @@ impl<W: Drop> Slots<W> {
         Ok(())
     }
 
-    // Closes holes if there are many, and else asks for memory. It stands apart, so that a section has no more of it
-    // than a call.
+    // Closes holes if there are many, and else asks for memory. It stands apart, so that a section has only a call of
+    // it.
     #[inline(never)]
     fn make_space(&mut self) -> Result<(), NoMemory>
         ensures slot { OnOk result (HasSlot self.new) }

@@ -1,8 +1,8 @@
 //! An init, and how it is polled: once, and into the record.
 //!
 //! Two types have private fields, which no code outside of this file can read or write. So the future that lies in a
-//! [`Pollable`] is polled by `ask` alone, and only an [`Answered`], which `ask` alone makes, can be written into the
-//! record as what an init answered.
+//! [`Pollable`] is polled by `ask` alone, and only an [`Answered`], which `ask` alone makes, can be in the `Act` by
+//! which a hand writes what an init answered.
 ghost use Rattle.std.specs.Prelude.{◌≡◌, Some, None, IsSome, IsSomeAnd, IfErr, IfOk};
 ghost use Rattle.async_once_cell.specs.Inits.{GivesNoOther, polled_in};
 ghost use Rattle.async_once_cell.specs.Inner.Hands.{HasRight, HasRun};

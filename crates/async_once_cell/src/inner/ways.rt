@@ -108,7 +108,7 @@ impl<T, W: TaskWaker + Drop, R: Wait + AllocGlobal, V: Fits<T>> Shared<'_, '_, T
         self.at_wait_load(ticket, side)
     }
 
-    // The later poll of a holder is a call of its own, so that that of a waiter is inlined.
+    // A holder's later poll is a call of its own, so that a waiter's is inlined.
     fn at_right<S: TaskSide<W, Value = T>>(&mut self, idle: Idle, side: &mut S) -> Ending
         requires live { is_over idle ≡ false }
         requires stands { IsBegun W.whose S.state idle self.old side.old }

@@ -295,7 +295,7 @@ impl<T, W: TaskWaker + Drop, V: Fits<T>> Inner<T, W, V> {
                 Spent::keep(spent, taken, copy);
                 Reached::Refused(ticket)
             }
-            // `Listed`, which has none either.
+            // `Listed`, which has no waker.
             waits => {
                 mem::forget(waits);
                 Reached::Waits(ticket)
